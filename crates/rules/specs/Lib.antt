@@ -1,0 +1,11 @@
+pub mod Cases
+pub mod Refusals
+pub mod Rules
+pub mod Ranges
+pub mod Markets
+pub mod Phases
+pub mod Notices
+pub mod Buyings
+pub mod Prices
+pub mod Sides
+pub mod Letters
