@@ -1,8 +1,6 @@
 ghost use mathlib.Core.Path.{_≡_};
-ghost use Rattle.rules.specs.Buyings.{buying-rules, buying-numbered, after-notice};
-
+ghost use Rattle.rules.specs.Buyings.{buying-numbered, after-notice};
 use super::notice::NoticeBand;
-use super::refusal::Refusal;
 
 // Whether a security may be bought.
 #[derive(Clone, Copy, PartialEq, Eq, Debug)]
@@ -13,27 +11,6 @@ pub enum Buying {
 }
 
 impl Buying {
-    pub fn number(self) -> u64
-        ensures { λ r. ⌜ r ≡ buying-rules self .number ⌝ }
-    {
-        match self {
-            Buying::Open => 1,
-            Buying::SellOnly => 2,
-            Buying::Suspended => 3,
-        }
-    }
-
-    // Why a buy is refused, if it is.
-    pub fn refusal(self) -> Option<Refusal>
-        ensures { λ r. ⌜ r ≡ buying-rules self .refusal ⌝ }
-    {
-        match self {
-            Buying::Open => None,
-            Buying::SellOnly => Some(Refusal::SellOnly),
-            Buying::Suspended => Some(Refusal::Suspended),
-        }
-    }
-
     // The buying state of a number, if it is one's.
     pub fn numbered(n: u64) -> Option<Buying>
         ensures { λ r. ⌜ r ≡ buying-numbered n ⌝ }

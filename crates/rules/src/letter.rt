@@ -1,4 +1,5 @@
 ghost use mathlib.Core.Path.{_≡_};
+ghost use Prim.Native.Nat.{_≤_};
 ghost use lib.ListN.{length};
 ghost use Rattle.rules.specs.Letters.{part-number, letter-rules};
 
@@ -54,7 +55,8 @@ impl Letter {
 
     // How many fields the line has.
     pub fn fields(self) -> usize
-        ensures { λ r. ⌜ r ≡ length (letter-rules self .fields) ⌝ }
+        ensures value { λ r. ⌜ r ≡ length (letter-rules self .fields) ⌝ }
+        ensures few { λ r. ⌜ r ≤ 5 ⌝ }
     {
         match self {
             Letter::Step => 0,

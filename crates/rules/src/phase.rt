@@ -12,18 +12,6 @@ pub enum Phase {
 }
 
 impl Phase {
-    pub fn number(self) -> u64
-        ensures { λ r. ⌜ r ≡ phase-rules self .number ⌝ }
-    {
-        match self {
-            Phase::OpeningCall => 1,
-            Phase::OpeningCallNoCancel => 2,
-            Phase::Continuous => 3,
-            Phase::ClosingCall => 4,
-            Phase::AfterHours => 5,
-        }
-    }
-
     // Whether a balance of 0 or less shuts buying in this phase.
     pub fn shuts(self) -> bool
         ensures { λ r. ⌜ r ≡ phase-rules self .shuts ⌝ }

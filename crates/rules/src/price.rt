@@ -1,5 +1,4 @@
 ghost use mathlib.Core.Path.{_≡_};
-ghost use Prim.Native.Nat.{_<_, _^_};
 ghost use Rattle.rules.specs.Prices.{band-percent, band-of-percent, lowest-price, highest-price};
 
 // How far a day's prices may leave the previous close, in percent.
@@ -10,7 +9,7 @@ pub enum PriceBand {
 }
 
 impl PriceBand {
-    pub fn percent(self) -> u64
+    fn percent(self) -> u64
         ensures { λ r. ⌜ r ≡ band-percent self ⌝ }
     {
         match self {

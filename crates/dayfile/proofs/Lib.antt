@@ -1,0 +1,5 @@
+pub mod Groups
+pub mod Written
+pub mod Reading
+pub mod Following
+pub mod Law

@@ -1,0 +1,6 @@
+pub mod Groups
+pub mod Rows
+pub mod Kinds
+pub mod DayPart
+pub mod Description
+pub mod Loads

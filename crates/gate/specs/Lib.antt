@@ -1,0 +1,4 @@
+pub mod Balances
+pub mod Opened
+pub mod Calls
+pub mod Closed

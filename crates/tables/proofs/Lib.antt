@@ -1,0 +1,4 @@
+pub mod Seeks
+pub mod Rise
+pub mod Holders
+pub mod Lent

@@ -1,0 +1,5 @@
+pub mod Orders
+pub mod Lookup
+pub mod Rows
+pub mod Tables
+pub mod Lines
