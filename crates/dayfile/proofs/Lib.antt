@@ -3,3 +3,4 @@ pub mod Written
 pub mod Reading
 pub mod Following
 pub mod Law
+pub mod Loads

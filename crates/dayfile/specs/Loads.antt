@@ -1,9 +1,12 @@
 -- The lent tables before and after a load.
 use mathlib.Core.Path.{_≡_}
+use mathlib.Core.Bool.{true}
 use mathlib.Core.List.{List, _++_}
 use Prim.Native.Nat.{ℕ}
 use lib.ListN.{length, take, drop}
 use denote.Ref.{now}
+use Rattle.std.specs.Results.{Cases, isOk}
+use Rattle.std.specs.Vec.{made as made-of}
 use Rattle.std.specs.declared.result.Result.{Result}
 use Rattle.std.specs.declared.result.Result.the-variants.{Ok, Err}
 use Rattle.tables.specs.declared.rows.Security.{Security}
@@ -14,14 +17,19 @@ use Rattle.tables.specs.declared.security_list.SecurityList.{SecurityList}
 use Rattle.tables.specs.declared.holdings.Holdings.{Holdings}
 use Rattle.tables.specs.declared.account_holdings.AccountHoldings.{AccountHoldings}
 use Rattle.tables.specs.declared.designations.Designations.{Designations}
+use Rattle.rules.specs.declared.letter.Part.the-variants as part
+use Rattle.fields.specs.declared.fault.DayFault.{DayFault}
+use Rattle.fields.specs.Faults.{day-at}
+use Rattle.gate.specs.declared.day.LoadingDay.{LoadingDay}
 use Rattle.gate.specs.declared.figures.Figures.{Figures}
 use Rattle.gate.specs.Opened.{OpenedBy}
 use Rattle.registers.specs.Meaning.{Fresh}
 use Rattle.registers.specs.Registers.{participant-meaning, account-meaning}
+use Rattle.dayfile.specs.declared.loaded.Loaded.{Loaded}
 use Rattle.dayfile.specs.declared.plan.Counts.{Counts}
 use Rattle.dayfile.specs.declared.plan.Plan.{Plan}
-use Rattle.dayfile.specs.DayPart.{account-holdings-at, counts, designations-at, holdings-at, securities-at}
-use Rattle.dayfile.specs.Description.{Description}
+use Rattle.dayfile.specs.DayPart.{account-holdings-at, counts, day-part, designations-at, holdings-at, securities-at}
+use Rattle.dayfile.specs.Description.{Describes, Description}
 use Rattle.dayfile.specs.Groups.{Kind, rows-of}
 use Rattle.dayfile.specs.Kinds.{security-kind, holding-kind, account-holding-kind, designation-kind}
 
@@ -84,3 +92,16 @@ pub record Holds (d : Description) (t : Tables) : Type 0 where
   pub designations : lines-of (t .designations) ≡ d .designations
   pub participants-fresh : Fresh (participant-meaning (lines-of (t .holdings)))
   pub accounts-fresh : Fresh (account-meaning (lines-of (t .account-holdings)) (lines-of (t .designations)))
+
+-- A load of the input into the tables answers r and leaves the tables after it.
+pub record Load (input : List ℕ) (before : Tables) (r : Result Loaded (LoadingDay × DayFault)) (after : Tables) : Type 0 where
+  -- the answer is what the day part says, or its first fault
+  pub answers : Cases r
+      (λ l. (made : Plan) × (day-part input (room-of before) ≡ Ok made) × Begins made (l .day .figures) (l .events) (l .line))
+      (λ back. day-at part.Day (day-part input (room-of before)) ≡ Err (back .1))
+  -- the tables hold the file's lines and then what they held there, or stay as they were
+  pub leaves : after ≡ loaded (day-part input (room-of before)) input before
+  -- an accepted input begins with the written form of a description, and the tables hold its lines
+  pub described : made-of r (λ l. (d : Description) × Describes input (room-of before) d × Holds d after)
+  -- and each input that begins with the written form of a description is accepted
+  pub accepts : (d : Description) → Describes input (room-of before) d → (isOk r ≡ true) × Holds d after

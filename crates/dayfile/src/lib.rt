@@ -2,6 +2,7 @@
 mod group;
 mod judging;
 mod kinds;
+pub mod loaded;
 pub mod loading;
 pub mod plan;
 mod rows;

@@ -1,15 +1,11 @@
 ghost use mathlib.Core.Path.{_≡_};
 ghost use mathlib.Core.Bool.{true};
 ghost use denote.Ref.{now};
-ghost use Rattle.std.specs.Results.{Cases, isOk};
-ghost use Rattle.std.specs.Vec.{made};
-ghost use Rattle.std.specs.declared.result.Result.the-variants.{Ok, Err};
-ghost use Rattle.rules.specs.declared.letter.Part.the-variants as part;
-ghost use Rattle.fields.specs.Faults.{day-at};
-ghost use Rattle.dayfile.specs.declared.plan.Plan.{Plan as a-plan};
-ghost use Rattle.dayfile.specs.DayPart.{day-part, Planned};
-ghost use Rattle.dayfile.specs.Description.{Describes, Description};
-ghost use Rattle.dayfile.specs.Loads.{Begins, filled-by, Holds, loaded, room-of, tables-of};
+ghost use Rattle.rules.specs.declared.range.Quantity.the-variants as quantity;
+ghost use Rattle.rules.specs.Ranges.{in-range, range-of};
+ghost use Rattle.gate.specs.Opened.{OpenedBy};
+ghost use Rattle.dayfile.specs.DayPart.{Planned};
+ghost use Rattle.dayfile.specs.Loads.{filled-by, Load, room-of, tables-of};
 
 use super::group::fill;
 use super::judging::judged;
@@ -17,15 +13,13 @@ use super::kinds::AccountHoldingEntry;
 use super::kinds::DesignationEntry;
 use super::kinds::HoldingEntry;
 use super::kinds::SecurityEntry;
+use super::loaded::Loaded;
 use super::plan::Counts;
+use super::plan::Opening;
 use super::plan::Plan;
 use fields::fault::DayFault;
-use fields::fault::FieldFault;
-use fields::fault::LineFault;
 use gate::day::LoadingDay;
 use gate::day::TradingDay;
-use rules::letter::Part;
-use rules::refusal::Refusal;
 use tables::account_holdings::AccountHoldings;
 use tables::account_holdings::lines::AccountHoldingsTable;
 use tables::designations::Designations;
@@ -36,11 +30,16 @@ use tables::security_list::SecurityList;
 use tables::security_list::lines::SecurityListTable;
 use tables::table::Table;
 
-// A day that is loaded: it trades, and its events begin at a place of the input, with a line of this number.
-pub struct Loaded {
-    pub day: TradingDay,
-    pub events: usize,
-    pub line: u64,
+// How many rows each table has room for.
+fn rooms(list: &SecurityList, holdings: &Holdings, account_holdings: &AccountHoldings, designations: &Designations) -> Counts
+    ensures { λ r. ⌜ r ≡ room-of (tables-of (now (list .entry)) (now (holdings .entry)) (now («account_holdings» .entry)) (now (designations .entry))) ⌝ }
+{
+    Counts {
+        securities: list.room(),
+        holdings: holdings.room(),
+        account_holdings: account_holdings.room(),
+        designations: designations.room(),
+    }
 }
 
 // Makes the lines of a planned day part those of the tables.
@@ -57,4 +56,29 @@ fn write(plan: Plan, input: &[u8], list: &mut SecurityList, holdings: &mut Holdi
     fill(account_holdings, input, at, counts.account_holdings);
     at += 50 * counts.account_holdings;
     fill(designations, input, at, counts.designations);
+}
+
+// The trading day of an opening in range.
+fn opened(day: LoadingDay, opening: Opening) -> TradingDay
+    requires { ⌜ in-range (range-of quantity.Market) (opening .market) ≡ true ⌝ ∗ ⌜ in-range (range-of quantity.Date) (opening .date) ≡ true ⌝ ∗ ⌜ in-range (range-of quantity.Quota) (opening .quota) ≡ true ⌝ }
+    ensures { λ r. ⌜ OpenedBy (opening .market) (opening .date) (opening .quota) (r .figures) ⌝ }
+{
+    match day.open(opening.market, opening.date, opening.quota) {
+        Ok(day) => day,
+        Err((LoadingDay {}, _)) => unreachable(),
+    }
+}
+
+// Loads a day part into the lent tables and opens the day. A refused one gives the loading day back, and no table changes.
+pub fn load(day: LoadingDay, input: &[u8], list: &mut SecurityList, holdings: &mut Holdings, account_holdings: &mut AccountHoldings, designations: &mut Designations) -> Result<Loaded, (LoadingDay, DayFault)>
+    ensures { λ r. ⌜ Load (now (input .entry)) (tables-of (now (list .entry)) (now (holdings .entry)) (now («account_holdings» .entry)) (now (designations .entry))) r (tables-of (now (list .exit)) (now (holdings .exit)) (now («account_holdings» .exit)) (now (designations .exit))) ⌝ }
+{
+    let room = rooms(list, holdings, account_holdings, designations);
+    match judged(input, room) {
+        Ok(plan) => {
+            write(plan, input, list, holdings, account_holdings, designations);
+            Ok(Loaded { day: opened(day, plan.opening), events: plan.events, line: plan.line })
+        }
+        Err(fault) => Err((day, fault)),
+    }
 }

@@ -6,13 +6,11 @@ use Prim.Native.Nat.{ℕ, zero, suc, _+_, _≤_, _<_}
 use native.Mathlib.Omega.{arith}
 use lib.Dec.{leb}
 use lib.ListN.{length, getD, set, take}
-use Rattle.std.specs.Finite.{nth}
 use Rattle.std.specs.declared.option.Option.{Option}
 use Rattle.std.specs.declared.option.Option.the-variants.{Some, None}
 use Rattle.std.specs.declared.cmp.Ordering.{Ordering}
 use Rattle.std.proofs.shelf.Tests.{and-parts, and-from, and-left, and-right, le-leb, lt-leb}
 use Rattle.std.proofs.shelf.Lists.{length-set, length-take-le, getD-take, getD-past, take-more-set}
-use Rattle.std.proofs.shelf.Maps.{nth-getD, nth-past}
 use Rattle.tables.specs.Lookup.{rise, rise-from}
 
 pub keys-set : {X K : Type 0} (name : X → Option K) (rows : List X) (k : ℕ) (x d : X) → name x ≡ name (getD rows k d) → map name (set rows k x) ≡ map name rows
@@ -27,13 +25,6 @@ take-set-in (suc n) (y ∷ ys) zero x = refl
 take-set-in (suc n) (y ∷ ys) (suc k) x = ap (λ r. y ∷ r) (take-set-in n ys k x)
 
 module _ {X : Type 0} (rows : List X) (count : ℕ) (fits : count ≤ length rows) where
-  -- the line at a place
-  pub line-in : (k : ℕ) (d : X) → k < count → Some (getD rows k d) ≡ nth (take count rows) k
-  line-in k d l = sym (nth-getD (take count rows) k d (omega (arith, length-take-le count rows fits, l)) ∙ ap Some (getD-take count rows k d l))
-
-  pub line-past : (k : ℕ) → count ≤ k → None ≡ nth (take count rows) k
-  line-past k l = sym (nth-past (take count rows) k (omega (arith, length-take-le count rows fits, l)))
-
   -- a row that is written within the lines
   pub wrote : (k : ℕ) (d : X) (f : X → X) → k < count → take count (set rows k (f (getD rows k d))) ≡ set (take count rows) k (f (getD (take count rows) k d))
   wrote k d f l = take-set-in count rows k (f (getD rows k d)) ∙ ap (λ x. set (take count rows) k (f x)) (sym (getD-take count rows k d l))

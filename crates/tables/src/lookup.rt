@@ -3,6 +3,7 @@ ghost use mathlib.Core.Bool.{true, false};
 ghost use mathlib.Core.List.{_∷_, [], _++_, map};
 ghost use Prim.Native.Nat.{ℕ, _<_, _≤_};
 ghost use lib.ListN.{length, getD};
+ghost use Rattle.std.specs.Finite.{nth};
 ghost use Rattle.std.specs.declared.option.Option.the-variants.{None};
 ghost use Rattle.tables.specs.Orders.{pair-order};
 ghost use Rattle.tables.specs.Lookup.{seek, Found, Held, is-before, is-at, is-above, rise, Rising, is-of, some-of};
@@ -172,6 +173,17 @@ pub fn holds<R: Row<Key = Pair>>(rows: &[R], first: u64, rising: bool) -> bool
         holds_rising(rows, first)
     } else {
         holds_walk(rows, first)
+    }
+}
+
+// The row at a place, if there is one.
+pub(crate) fn row_at<R: Copy>(rows: &[R], place: usize) -> Option<R>
+    ensures { λ r. ⌜ r ≡ nth (now (rows .entry)) place ⌝ }
+{
+    if place < rows.len() {
+        Some(rows[place])
+    } else {
+        None
     }
 }
 

@@ -16,6 +16,7 @@ use crate::lookup::holds;
 use crate::lookup::look;
 use crate::lookup::rises;
 use crate::lookup::rises_with;
+use crate::lookup::row_at;
 use crate::rows::AccountHolding;
 use crate::rows::AccountHoldingRow;
 use crate::rows::Pair;
@@ -62,11 +63,7 @@ impl AccountHoldings<'_> {
     pub fn line(&self, place: usize) -> Option<AccountHolding>
         ensures { λ r. ⌜ r ≡ nth (account-holding-lines (now (self .entry))) place ⌝ }
     {
-        if place < self.count {
-            Some(self.rows[place])
-        } else {
-            None
-        }
+        row_at(&self.rows[..self.count], place)
     }
 
     // Changes how many shares of a line may be sold, where the line is present with so many.

@@ -15,6 +15,7 @@ use crate::key::PairKey;
 use crate::lookup::look;
 use crate::lookup::rises;
 use crate::lookup::rises_with;
+use crate::lookup::row_at;
 use crate::rows::Holding;
 use crate::rows::HoldingRow;
 use crate::rows::Pair;
@@ -54,11 +55,7 @@ impl Holdings<'_> {
     pub fn line(&self, place: usize) -> Option<Holding>
         ensures { λ r. ⌜ r ≡ nth (holding-lines (now (self .entry))) place ⌝ }
     {
-        if place < self.count {
-            Some(self.rows[place])
-        } else {
-            None
-        }
+        row_at(&self.rows[..self.count], place)
     }
 
     // Changes how many shares of a line may be sold, where the line is present with so many.

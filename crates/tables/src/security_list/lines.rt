@@ -15,6 +15,7 @@ use crate::key::NumberKey;
 use crate::lookup::look;
 use crate::lookup::rises;
 use crate::lookup::rises_with;
+use crate::lookup::row_at;
 use crate::rows::Security;
 use crate::rows::SecurityRow;
 use crate::table::Table;
@@ -50,11 +51,7 @@ impl SecurityList<'_> {
     pub fn line(&self, place: usize) -> Option<Security>
         ensures { λ r. ⌜ r ≡ nth (security-lines (now (self .entry))) place ⌝ }
     {
-        if place < self.count {
-            Some(self.rows[place])
-        } else {
-            None
-        }
+        row_at(&self.rows[..self.count], place)
     }
 
     // Moves the buying state of a line by a notice's band, and changes nothing else.

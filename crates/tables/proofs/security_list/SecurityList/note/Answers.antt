@@ -16,7 +16,8 @@ pub returns : need.returns
 returns c =
     let moved = ap (λ b. set (c .args .self .now .rows .now) (c .args .place) (with-buying (getD (c .args .self .now .rows .now) (c .args .place) no-security) b)) (c .noticed .ensures) in
     record {
-        done = sym (lt-ltb (c .args .place) (c .args .self .now .count) (c .if-place-self .left));
-        wrote = moved;
-        counted = refl;
-        lines = ap (take (c .args .self .now .count)) moved ∙ wrote (c .args .self .now .rows .now) (c .args .self .now .count) (c .args .self .now .fits) (c .args .place) no-security (λ s. noticed s (c .args .band)) (c .if-place-self .left) }
+      done = sym (lt-ltb (c .args .place) (c .args .self .now .count) (c .if-place-self .left));
+      wrote = moved;
+      counted = refl;
+      lines = ap (take (c .args .self .now .count)) moved ∙ wrote (c .args .self .now .rows .now) (c .args .self .now .count) (c .args .self .now .fits) (c .args .place) no-security (λ s. noticed s (c .args .band)) (c .if-place-self .left);
+    }
