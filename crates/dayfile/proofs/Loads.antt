@@ -94,7 +94,7 @@ same-plan : (r : Result Plan LineFault) (a b : Plan) → r ≡ Ok a → r ≡ Ok
 same-plan r a b p q = cc
 
 -- a load that is accepted
-pub taken : (input : List ℕ) (before after : Tables) (l : Loaded) (made : Plan) → Ok made ≡ day-at part.Day (day-part input (room-of before)) → Planned input (room-of before) made → Begins made (l .day .figures) (l .events) (l .line) → after ≡ filled-by made input before → Load input before (Ok l) after
+pub taken : (input : List ℕ) (before after : Tables) (l : Loaded) (made : Plan) → Ok made ≡ day-at part.Day (day-part input (room-of before)) → Planned input (room-of before) made → Begins input made (l .day .figures) (l .events) (l .line) → after ≡ filled-by made input before → Load input before (Ok l) after
 taken input before after l made e p b f =
     let is : day-part input (room-of before) ≡ Ok made = day-ok (day-part input (room-of before)) made e in
     let d = day-read input (room-of before) made is in

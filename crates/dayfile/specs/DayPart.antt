@@ -90,4 +90,5 @@ pub record Planned (input : List ℕ) (room : Counts) (made : Plan) : Type 0 whe
   pub holdings : Lines holding-kind (room .holdings) (holdings-at (made .counts)) input (made .counts .holdings)
   pub account-holdings : Lines account-holding-kind (room .«account_holdings») (account-holdings-at (made .counts)) input (made .counts .«account_holdings»)
   pub designations : Lines designation-kind (room .designations) (designations-at (made .counts)) input (made .counts .designations)
-  pub ended : events-at (made .counts) ≤ length input
+  pub ended : made .events ≤ length input
+  pub numbered : made .line ≤ made .events + 1

@@ -2,7 +2,7 @@
 use mathlib.Core.Path.{_≡_}
 use mathlib.Core.Bool.{true}
 use mathlib.Core.List.{List, _++_}
-use Prim.Native.Nat.{ℕ}
+use Prim.Native.Nat.{ℕ, _+_, _≤_}
 use lib.ListN.{length, take, drop}
 use denote.Ref.{now}
 use Rattle.std.specs.Results.{Cases, isOk}
@@ -78,11 +78,13 @@ abbrev pub loaded : {E : Type 0} → Result Plan E → List ℕ → Tables → T
 loaded (Ok made) input t = filled-by made input t
 loaded (Err f) input t = t
 
--- The day opens as the D line says, and the events begin after the E line.
-pub record Begins (made : Plan) (figures : Figures) (events line : ℕ) : Type 0 where
+-- The day opens as the D line says, and the events begin after the E line, inside the input.
+pub record Begins (input : List ℕ) (made : Plan) (figures : Figures) (events line : ℕ) : Type 0 where
   pub opened : OpenedBy (made .opening .market) (made .opening .date) (made .opening .quota) figures
   pub events-begin : events ≡ made .events
   pub first-line : line ≡ made .line
+  pub inside : events ≤ length input
+  pub few-lines : line ≤ events + 1
 
 -- The tables hold the lines of the description, and registers over them are fresh.
 pub record Holds (d : Description) (t : Tables) : Type 0 where
@@ -97,7 +99,7 @@ pub record Holds (d : Description) (t : Tables) : Type 0 where
 pub record Load (input : List ℕ) (before : Tables) (r : Result Loaded (LoadingDay × DayFault)) (after : Tables) : Type 0 where
   -- the answer is what the day part says, or its first fault
   pub answers : Cases r
-      (λ l. (made : Plan) × (day-part input (room-of before) ≡ Ok made) × Begins made (l .day .figures) (l .events) (l .line))
+      (λ l. (made : Plan) × (day-part input (room-of before) ≡ Ok made) × Begins input made (l .day .figures) (l .events) (l .line))
       (λ back. day-at part.Day (day-part input (room-of before)) ≡ Err (back .1))
   -- the tables hold the file's lines and then what they held there, or stay as they were
   pub leaves : after ≡ loaded (day-part input (room-of before)) input before

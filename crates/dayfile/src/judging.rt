@@ -1,7 +1,7 @@
 ghost use mathlib.Core.Path.{_≡_};
 ghost use mathlib.Core.Bool.{true};
 ghost use Prim.Native.Nat.{ℕ, _+_, _*_, _≤_};
-ghost use lib.ListN.{length, getD, drop};
+ghost use lib.ListN.{length, drop};
 ghost use Rattle.std.specs.Vec.{made};
 ghost use Rattle.rules.specs.declared.letter.Letter.the-variants as letter;
 ghost use Rattle.rules.specs.declared.letter.Part.the-variants as part;
@@ -28,6 +28,7 @@ use fields::fault::in_part;
 use fields::fault::LineFault;
 use fields::fault::LineFaultFrom;
 use fields::line::DayLine;
+use fields::line::first_byte;
 use rules::letter::Part;
 use rules::range::Quantity;
 use rules::refusal::Refusal;
@@ -35,13 +36,6 @@ use tables::rows::AccountHolding;
 use tables::rows::Designation;
 use tables::rows::Holding;
 use tables::rows::Security;
-
-// The byte that a line begins with, 0 at the input's end.
-fn first_byte(line: &[u8]) -> u8
-    ensures { λ r. ⌜ r ≡ getD (now (line .entry)) 0 0 ⌝ }
-{
-    if line.len() == 0 { 0 } else { line[0] }
-}
 
 // What the first line says, which has to be a D line.
 fn opening(line: &[u8]) -> Result<Opening, FieldFault>

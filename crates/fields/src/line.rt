@@ -1,6 +1,6 @@
 ghost use mathlib.Core.Path.{_≡_};
 ghost use Prim.Native.Nat.{_+_, _*_, _<_, _≤_};
-ghost use lib.ListN.{length};
+ghost use lib.ListN.{getD, length};
 ghost use Rattle.std.specs.Results.{Cases};
 ghost use Rattle.std.specs.declared.result.Result.the-variants.{Ok, Err};
 ghost use Rattle.fields.specs.Layout.{FieldAt, closing, opening, day-letters, event-letters, width-of};
@@ -172,6 +172,13 @@ pub fn line_width(letter: Letter) -> usize
     ensures back { λ _. ⌜ ReadsBack letter ⌝ }
 {
     2 + 16 * letter.fields()
+}
+
+// The byte that a line begins with, 0 where no line begins.
+pub fn first_byte(line: &[u8]) -> u8
+    ensures { λ r. ⌜ r ≡ getD (now (line .entry)) 0 0 ⌝ }
+{
+    if line.len() == 0 { 0 } else { line[0] }
 }
 
 // The field j of a line, counted from 0.

@@ -17,7 +17,7 @@ returns-in-Ok c =
     (c .in-Ok .plan)
     (subst (λ (room : Counts). Ok (c .in-Ok .plan) ≡ day-at part.Day (day-part (c .args .input .now) room)) (c .rooms-room .ensures) (c .in-Ok .ensures tt .is))
     (subst (λ (room : Counts). Planned (c .args .input .now) room (c .in-Ok .plan)) (c .rooms-room .ensures) (c .in-Ok .ensures tt .planned))
-    (record { opened = c .opened .ensures; events-begin = refl; first-line = refl })
+    (record { opened = c .opened .ensures; events-begin = refl; first-line = refl; inside = c .in-Ok .ensures tt .planned .ended; few-lines = c .in-Ok .ensures tt .planned .numbered })
     (c .write .ensures)
 
 pub returns-in-Err : need.returns-in-Err

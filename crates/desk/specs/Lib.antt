@@ -1,0 +1,4 @@
+pub mod Printed
+pub mod Events
+pub mod Answered
+pub mod Output
