@@ -46,10 +46,11 @@ module _ {R K : Type 0} (kind : Kind R (Option K)) (order : K → K → Ordering
   pub rise-steps : (rows : List R) (last : Option K) → All Good rows → rise-from order last (map named rows) ≡ true → Steps kind last rows
   rise-steps [] last a r = tt
   rise-steps (x ∷ xs) last a r =
-      let b = and-parts (is-above order last (key x)) (rise-from order (Some (key x)) (map named xs)) (sym (ap (λ o. rise-from order last (o ∷ map named xs)) (has x (a .0))) ∙ r) in
-      (Some (key x)
-      , is last x ∙ ap (λ c. cond c (Ok (Some (key x))) (Err (record { cause = refusal.Sequence; column = 1 }))) (b .0)
-      , rise-steps xs (Some (key x)) (a .1) (b .1))
+      let b = and-parts (is-above order last (key x)) (rise-from order (Some (key x)) (map named xs)) (sym (ap (λ o. rise-from order last (o ∷ map named xs)) (has x (a .0))) ∙ r) in (
+        Some (key x),
+        is last x ∙ ap (λ c. cond c (Ok (Some (key x))) (Err (record { cause = refusal.Sequence; column = 1 }))) (b .0),
+        rise-steps xs (Some (key x)) (a .1) (b .1),
+      )
 
 -- designations: the account's run counts what it has named
 
@@ -82,18 +83,20 @@ one-off d a n = ap (λ b. cond b 1 0) (ne-eqb (d .account) a n)
 
 -- a first line of an account
 fresh : (so-far : ℕ → ℕ) (d : Designation) → so-far (d .account) ≡ 0 → ((a : ℕ) → d .account < a → so-far a ≡ 0) → ((a : ℕ) → so-far a ≤ most-named) → Counted (Some (record { last = key d; named = 1 })) (λ a. so-far a + one d a)
-fresh so-far d z hi few =
-    (omega (arith, z, one-at d)
-    , (λ a h. omega (arith, hi a h, one-off d a (λ e. omega arith)))
-    , λ a. ⊎-elim (λ (e : d .account ≡ a). subst (λ (b : ℕ). so-far b + one d b ≤ most-named) e (omega (arith, z, one-at d))) (λ (n : d .account ≡ a → ⊥). omega (arith, few a, one-off d a n)) (cases-eq (d .account) a))
+fresh so-far d z hi few = (
+  omega (arith, z, one-at d),
+  (λ a h. omega (arith, hi a h, one-off d a (λ e. omega arith))),
+  λ a. ⊎-elim (λ (e : d .account ≡ a). subst (λ (b : ℕ). so-far b + one d b ≤ most-named) e (omega (arith, z, one-at d))) (λ (n : d .account ≡ a → ⊥). omega (arith, few a, one-off d a n)) (cases-eq (d .account) a),
+)
 
 -- one more of the same account
 further : (so-far : ℕ → ℕ) (r : Run) (d : Designation) → r .last .first ≡ d .account → r .named < most-named → Counted (Some r) so-far → Counted (Some (record { last = key d; named = r .named + 1 })) (λ a. so-far a + one d a)
 further so-far r d e l c =
-    let at : so-far (d .account) ≡ r .named = ap so-far (sym e) ∙ c .0 in
-    (omega (arith, at, one-at d)
-    , (λ a h. omega (arith, c .1 a (omega arith), one-off d a (λ f. omega arith)))
-    , λ a. ⊎-elim (λ (f : d .account ≡ a). subst (λ (b : ℕ). so-far b + one d b ≤ most-named) f (omega (arith, at, one-at d))) (λ (n : d .account ≡ a → ⊥). omega (arith, c .2 a, one-off d a n)) (cases-eq (d .account) a))
+    let at : so-far (d .account) ≡ r .named = ap so-far (sym e) ∙ c .0 in (
+      omega (arith, at, one-at d),
+      (λ a h. omega (arith, c .1 a (omega arith), one-off d a (λ f. omega arith))),
+      λ a. ⊎-elim (λ (f : d .account ≡ a). subst (λ (b : ℕ). so-far b + one d b ≤ most-named) f (omega (arith, at, one-at d))) (λ (n : d .account ≡ a → ⊥). omega (arith, c .2 a, one-off d a n)) (cases-eq (d .account) a),
+    )
 
 lower : (so-far : ℕ → ℕ) (r : Run) (d : Designation) → r .last .first ≤ d .account → (r .last .first ≡ d .account → ⊥) → Counted (Some r) so-far → Counted (Some (record { last = key d; named = 1 })) (λ a. so-far a + one d a)
 lower so-far r d h n c =
@@ -114,12 +117,12 @@ by-account so-far r d t up c e =
     let n = next-ok (eqb (r .last .first) (d .account)) (ltb (r .named) most-named) (Some (record { last = key d; named = r .named + 1 })) (Some (record { last = key d; named = 1 })) (record { cause = refusal.Designations; column = 1 }) t e in
     ⊎-elim
     (λ (q : r .last .first ≡ d .account).
-        let m = n .0 (eq-eqb (r .last .first) (d .account) q) in
-        let lt : r .named < most-named = grind (arith, tells) in
-        (up, ap last-of (m .1), subst (λ w. Counted w (λ a. so-far a + one d a)) (sym (m .1)) (further so-far r d q lt c)))
+    let m = n .0 (eq-eqb (r .last .first) (d .account) q) in
+    let lt : r .named < most-named = grind (arith, tells) in
+    (up, ap last-of (m .1), subst (λ w. Counted w (λ a. so-far a + one d a)) (sym (m .1)) (further so-far r d q lt c)))
     (λ (q : r .last .first ≡ d .account → ⊥).
-        let m = n .1 (ne-eqb (r .last .first) (d .account) q) in
-        (up, ap last-of m, subst (λ w. Counted w (λ a. so-far a + one d a)) (sym m) (lower so-far r d (not-lower (r .last) (key d) up) q c)))
+    let m = n .1 (ne-eqb (r .last .first) (d .account) q) in
+    (up, ap last-of m, subst (λ w. Counted w (λ a. so-far a + one d a)) (sym m) (lower so-far r d (not-lower (r .last) (key d) up) q c)))
     (cases-eq (r .last .first) (d .account))
 
 stepped : (so-far : ℕ → ℕ) (s : Option Run) (d : Designation) (t : Option Run) → Counted s so-far → naming s (key d) ≡ Ok t → Stepped so-far s d t
@@ -128,7 +131,7 @@ stepped so-far None d t c e =
     (refl, ap last-of q, subst (λ w. Counted w (λ a. so-far a + one d a)) (sym q) (fresh so-far d (c (d .account)) (λ a h. c a) (λ a. omega (arith, c a))))
 stepped so-far (Some r) d t c e =
     by-then (above pair-order (Some (r .last)) (key d)) (λ _. named-next r (key d)) t e (λ u eu e2.
-        by-account so-far r d t (above-ok (is-above pair-order (Some (r .last)) (key d)) (key d) (record { cause = refusal.Sequence; column = 1 }) u eu .0) c e2)
+    by-account so-far r d t (above-ok (is-above pair-order (Some (r .last)) (key d)) (key d) (record { cause = refusal.Sequence; column = 1 }) u eu .0) c e2)
 
 regroup : (a b c : ℕ) → a + (b + c) ≡ (a + b) + c
 regroup a b c = omega arith
@@ -137,9 +140,10 @@ pub named-few : (rows : List Designation) (s : Option Run) (so-far : ℕ → ℕ
 named-few [] s so-far g c few st = (refl, λ a. omega (arith, few a))
 named-few (d ∷ ds) s so-far g c few st =
     let p = stepped so-far s d (st .0) c (st .1) in
-    let rest = named-few ds (st .0) (λ a. so-far a + one d a) (g .1) (p .2) (counted-few (st .0) (λ a. so-far a + one d a) (p .1) (p .2)) (st .2) in
-    (ap (λ o. rise-from pair-order (last-of s) (o ∷ map designation-key ds)) (has-key d (g .0)) ∙ rw (p .0) (ap (λ o. rise-from pair-order o (map designation-key ds)) (sym (p .1)) ∙ rest .0)
-    , λ a. omega (arith, rest .1 a, regroup (so-far a) (one d a) (named-by a ds)))
+    let rest = named-few ds (st .0) (λ a. so-far a + one d a) (g .1) (p .2) (counted-few (st .0) (λ a. so-far a + one d a) (p .1) (p .2)) (st .2) in (
+      ap (λ o. rise-from pair-order (last-of s) (o ∷ map designation-key ds)) (has-key d (g .0)) ∙ rw (p .0) (ap (λ o. rise-from pair-order o (map designation-key ds)) (sym (p .1)) ∙ rest .0),
+      λ a. omega (arith, rest .1 a, regroup (so-far a) (one d a) (named-by a ds)),
+    )
   where
     counted-few : (t : Option Run) (f : ℕ → ℕ) {k : Pair} → last-of t ≡ Some k → Counted t f → (a : ℕ) → f a ≤ most-named
     counted-few None f e c = clash (cc)
@@ -152,11 +156,11 @@ may-follow so-far (Some r) d c up l =
     let first = ap (λ b. and-then (cond b (Ok (Some (key d))) (Err (record { cause = refusal.Sequence; column = 1 }))) (λ _. named-next r (key d))) up in
     ⊎-elim
     (λ (q : r .last .first ≡ d .account).
-        let at : so-far (d .account) ≡ r .named = ap so-far (sym q) ∙ c .0 in
-        let lt : ltb (r .named) most-named ≡ true = lt-ltb (r .named) most-named (omega (arith, at)) in
-        (Some (record { last = key d; named = r .named + 1 }), first ∙ rw (eq-eqb (r .last .first) (d .account) q, lt) refl))
+    let at : so-far (d .account) ≡ r .named = ap so-far (sym q) ∙ c .0 in
+    let lt : ltb (r .named) most-named ≡ true = lt-ltb (r .named) most-named (omega (arith, at)) in
+    (Some (record { last = key d; named = r .named + 1 }), first ∙ rw (eq-eqb (r .last .first) (d .account) q, lt) refl))
     (λ (q : r .last .first ≡ d .account → ⊥).
-        (Some (record { last = key d; named = 1 }), first ∙ rw (ne-eqb (r .last .first) (d .account) q) refl))
+    (Some (record { last = key d; named = 1 }), first ∙ rw (ne-eqb (r .last .first) (d .account) q) refl))
     (cases-eq (r .last .first) (d .account))
 
 pub few-named : (rows : List Designation) (s : Option Run) (so-far : ℕ → ℕ) → All (λ d. designation-present d ≡ true) rows → Counted s so-far → rise-from pair-order (last-of s) (map designation-key rows) ≡ true → ((a : ℕ) → so-far a + named-by a rows ≤ most-named) → Steps designation-kind s rows

@@ -52,11 +52,12 @@ use Rattle.dayfile.proofs.Following.{steps-rise, rise-steps, designations-step
 
 numbers-total : TotalOrder number-order
 numbers-total = record {
-    same = λ a b e. grind (arith, tells);
-    itself = λ a. grind (arith, tells);
-    after = λ a b e. grind (arith, tells);
-    before = λ a b e. grind (arith, tells);
-    through = λ a b c e f. grind (arith, tells) }
+  same = λ a b e. grind (arith, tells);
+  itself = λ a. grind (arith, tells);
+  after = λ a b e. grind (arith, tells);
+  before = λ a b e. grind (arith, tells);
+  through = λ a b c e f. grind (arith, tells);
+}
 
 -- the lines of each group, as they are written
 abbrev security-line : Security → List ℕ
@@ -104,11 +105,11 @@ ending-is c ns u l e =
     by-then (agreed 2 (getD ns 0 0) (c .securities)) _ u e (λ u0 e0 r0.
     by-then (agreed 18 (getD ns 1 0) (c .holdings)) _ u r0 (λ u1 e1 r1.
     by-then (agreed 34 (getD ns 2 0) (c .«account_holdings»)) _ u r1 (λ u2 e2 r2.
-        let a = counts-agree (getD ns 0 0) (c .securities) 2 u0 e0 in
-        let b = counts-agree (getD ns 1 0) (c .holdings) 18 u1 e1 in
-        let d = counts-agree (getD ns 2 0) (c .«account_holdings») 34 u2 e2 in
-        let f = counts-agree (getD ns 3 0) (c .designations) 50 u r2 in
-        four ns l ∙ (let q : getD ns 0 0 ∷ (getD ns 1 0 ∷ (getD ns 2 0 ∷ (getD ns 3 0 ∷ []))) ≡ end-numbers c = cc in q))))
+    let a = counts-agree (getD ns 0 0) (c .securities) 2 u0 e0 in
+    let b = counts-agree (getD ns 1 0) (c .holdings) 18 u1 e1 in
+    let d = counts-agree (getD ns 2 0) (c .«account_holdings») 34 u2 e2 in
+    let f = counts-agree (getD ns 3 0) (c .designations) 50 u r2 in
+    four ns l ∙ (let q : getD ns 0 0 ∷ (getD ns 1 0 ∷ (getD ns 2 0 ∷ (getD ns 3 0 ∷ []))) ≡ end-numbers c = cc in q))))
 
 -- what an accepted group of each kind says
 securities-read : (room nr n : ℕ) (line : List ℕ) → group security-kind room 0 None nr line ≡ Ok n → Grouped security-kind security-line GoodSecurity None line n
@@ -131,14 +132,13 @@ counts-same s p a g s′ p′ a′ g′ es ep ea eg = cc
 
 -- the pieces of an accepted day part
 module _ (input : List ℕ) (room : Counts) (o : Opening) (c : Counts)
-  (d-line : WrittenAs letter.Day (o .market ∷ (o .date ∷ (o .quota ∷ []))) input)
-  (ss : Grouped security-kind security-line GoodSecurity None (drop securities-at input) (c .securities))
-  (ps : Grouped holding-kind holding-line GoodHolding None (drop (holdings-at c) input) (c .holdings))
-  (hs : Grouped account-holding-kind account-holding-line GoodAccountHolding None (drop (account-holdings-at c) input) (c .«account_holdings»))
-  (gs : Grouped designation-kind designation-line GoodDesignation None (drop (designations-at c) input) (c .designations))
-  (e-line : WrittenAs letter.End (end-numbers c) (drop (end-at c) input))
-  (fit : Fits room (described input (plan o c))) where
-
+    (d-line : WrittenAs letter.Day (o .market ∷ (o .date ∷ (o .quota ∷ []))) input)
+    (ss : Grouped security-kind security-line GoodSecurity None (drop securities-at input) (c .securities))
+    (ps : Grouped holding-kind holding-line GoodHolding None (drop (holdings-at c) input) (c .holdings))
+    (hs : Grouped account-holding-kind account-holding-line GoodAccountHolding None (drop (account-holdings-at c) input) (c .«account_holdings»))
+    (gs : Grouped designation-kind designation-line GoodDesignation None (drop (designations-at c) input) (c .designations))
+    (e-line : WrittenAs letter.End (end-numbers c) (drop (end-at c) input))
+    (fit : Fits room (described input (plan o c))) where
   abbrev day : Description
   day = described input (plan o c)
 
@@ -155,11 +155,11 @@ module _ (input : List ℕ) (room : Counts) (o : Opening) (c : Counts)
       let f5 = split input (written-line letter.End (end-numbers c)) 66 (end-at c) (e-line .form) in
       f0
       ∙ ap (λ (t : List ℕ). written-line letter.Day (opening-numbers day) ++ t)
-        (f1 ∙ ap (λ (t : List ℕ). joined security-line (day .securities) ++ t)
-        (f2 ∙ ap (λ (t : List ℕ). joined holding-line (day .holdings) ++ t)
-        (f3 ∙ ap (λ (t : List ℕ). joined account-holding-line (day .account-holdings) ++ t)
-        (f4 ∙ ap (λ (t : List ℕ). joined designation-line (day .designations) ++ t)
-        (f5 ∙ ap (λ k. written-line letter.End (end-numbers k) ++ drop (events-at c) input) (sym same-counts))))))
+      (f1 ∙ ap (λ (t : List ℕ). joined security-line (day .securities) ++ t)
+      (f2 ∙ ap (λ (t : List ℕ). joined holding-line (day .holdings) ++ t)
+      (f3 ∙ ap (λ (t : List ℕ). joined account-holding-line (day .account-holdings) ++ t)
+      (f4 ∙ ap (λ (t : List ℕ). joined designation-line (day .designations) ++ t)
+      (f5 ∙ ap (λ k. written-line letter.End (end-numbers k) ++ drop (events-at c) input) (sym same-counts))))))
       ∙ sym (six (written-line letter.Day (opening-numbers day)) (joined security-line (day .securities)) (joined holding-line (day .holdings)) (joined account-holding-line (day .account-holdings)) (joined designation-line (day .designations)) (written-line letter.End (end-numbers (counts-of day))) (drop (events-at c) input))
 
   well-formed : WellFormed day
@@ -174,7 +174,8 @@ module _ (input : List ℕ) (room : Counts) (o : Opening) (c : Counts)
         account-holdings-fresh = all-fresh (λ h. account-holding-present h ≡ true) (λ h. h .sellable ≡ h .opening) (day .account-holdings) (hs .good);
         designations = rising-means pair-order pairs-total (map designation-key (day .designations)) (g .0);
         few-named = g .1;
-        ending = subst (λ k. Within (letter-rules letter.End .fields) (end-numbers k)) (sym same-counts) (e-line .within) }
+        ending = subst (λ k. Within (letter-rules letter.End .fields) (end-numbers k)) (sym same-counts) (e-line .within);
+      }
 
   pieces : Describes input room day
   pieces = record { well-formed = well-formed; fits = fit; events = drop (events-at c) input; form = form }
@@ -194,7 +195,7 @@ unfolding group
 group-few kind zero count nr n s line e = by-then (turn kind true s nr line) (λ o. Ok count) n e (λ o eo e2. let q : count ≡ n = cc in omega arith)
 group-few kind (suc room) count nr n s line e =
     by-then (turn kind false s nr line) (λ o. elim o [ None ↦ Ok count | Some t ↦ group kind room (count + 1) t (nr + 1) (drop (width-of (kind .letter)) line) ]) n e (λ o eo e2.
-        after-few (λ t. group kind room (count + 1) t (nr + 1) (drop (width-of (kind .letter)) line)) count room n o e2 (λ t et. group-few kind room (count + 1) (nr + 1) n t (drop (width-of (kind .letter)) line) et))
+    after-few (λ t. group kind room (count + 1) t (nr + 1) (drop (width-of (kind .letter)) line)) count room n o e2 (λ t et. group-few kind room (count + 1) (nr + 1) n t (drop (width-of (kind .letter)) line) et))
 
 -- an accepted day part is described
 pub day-read : (input : List ℕ) (room : Counts) (made : Plan) → day-part input room ≡ Ok made → Describes input room (described input made)
@@ -205,27 +206,28 @@ day-read input room made e =
     by-then (group account-holding-kind (room .«account_holdings») 0 None (2 + s + p) (drop (account-holdings-at (counts s p 0 0)) input)) _ made r2 (λ a ea r3.
     by-then (group designation-kind (room .designations) 0 None (2 + s + p + a) (drop (designations-at (counts s p a 0)) input)) _ made r3 (λ g eg r4.
     by-then (line-at (getD (drop (end-at (counts s p a g)) input) 0 0) (end-line (counts s p a g)) (line-of letter.End (ending-of (counts s p a g)) (drop (end-at (counts s p a g)) input))) _ made r4 (λ u eu r5.
-        let c = counts s p a g in
-        let q : plan o (counts s p a g) ≡ made = cc in
-        let d = line-read letter.Day opening-of refl input o (beside-ok (line-of letter.Day opening-of input) _ o eo) in
-        let dn = opening-is (d .0) o (within-long (letter-rules letter.Day .fields) (d .0) (d .1 .within)) (d .2) in
-        let z = line-read letter.End (ending-of c) refl (drop (end-at c) input) u (beside-ok (line-of letter.End (ending-of c) (drop (end-at c) input)) _ u eu) in
-        let zn = ending-is c (z .0) u (within-long (letter-rules letter.End .fields) (z .0) (z .1 .within)) (z .2) in
-        let ss = securities-read (room .securities) 2 s (drop securities-at input) es in
-        let ps = holdings-read (room .holdings) (2 + s) p (drop (holdings-at c) input) ep in
-        let hs = account-holdings-read (room .«account_holdings») (2 + s + p) a (drop (account-holdings-at c) input) ea in
-        let gs = designations-read (room .designations) (2 + s + p + a) g (drop (designations-at c) input) eg in
-        let fit : Fits room (described input (plan o c)) = record {
-            securities = omega (arith, ss .long, group-few security-kind (room .securities) 0 2 s None (drop securities-at input) es);
-            holdings = omega (arith, ps .long, group-few holding-kind (room .holdings) 0 (2 + s) p None (drop (holdings-at c) input) ep);
-            account-holdings = omega (arith, hs .long, group-few account-holding-kind (room .«account_holdings») 0 (2 + s + p) a None (drop (account-holdings-at c) input) ea);
-            designations = omega (arith, gs .long, group-few designation-kind (room .designations) 0 (2 + s + p + a) g None (drop (designations-at c) input) eg) } in
-        subst (λ (k : Plan). Describes input room (described input k)) q
-        (pieces input room o c
-            (subst (λ (ns : List ℕ). WrittenAs letter.Day ns input) dn (d .1))
-            ss ps hs gs
-            (subst (λ (ns : List ℕ). WrittenAs letter.End ns (drop (end-at c) input)) zn (z .1))
-            fit)))))))
+    let c = counts s p a g in
+    let q : plan o (counts s p a g) ≡ made = cc in
+    let d = line-read letter.Day opening-of refl input o (beside-ok (line-of letter.Day opening-of input) _ o eo) in
+    let dn = opening-is (d .0) o (within-long (letter-rules letter.Day .fields) (d .0) (d .1 .within)) (d .2) in
+    let z = line-read letter.End (ending-of c) refl (drop (end-at c) input) u (beside-ok (line-of letter.End (ending-of c) (drop (end-at c) input)) _ u eu) in
+    let zn = ending-is c (z .0) u (within-long (letter-rules letter.End .fields) (z .0) (z .1 .within)) (z .2) in
+    let ss = securities-read (room .securities) 2 s (drop securities-at input) es in
+    let ps = holdings-read (room .holdings) (2 + s) p (drop (holdings-at c) input) ep in
+    let hs = account-holdings-read (room .«account_holdings») (2 + s + p) a (drop (account-holdings-at c) input) ea in
+    let gs = designations-read (room .designations) (2 + s + p + a) g (drop (designations-at c) input) eg in
+    let fit : Fits room (described input (plan o c)) = record {
+      securities = omega (arith, ss .long, group-few security-kind (room .securities) 0 2 s None (drop securities-at input) es);
+      holdings = omega (arith, ps .long, group-few holding-kind (room .holdings) 0 (2 + s) p None (drop (holdings-at c) input) ep);
+      account-holdings = omega (arith, hs .long, group-few account-holding-kind (room .«account_holdings») 0 (2 + s + p) a None (drop (account-holdings-at c) input) ea);
+      designations = omega (arith, gs .long, group-few designation-kind (room .designations) 0 (2 + s + p + a) g None (drop (designations-at c) input) eg);
+    } in
+    subst (λ (k : Plan). Describes input room (described input k)) q
+    (pieces input room o c
+    (subst (λ (ns : List ℕ). WrittenAs letter.Day ns input) dn (d .1))
+    ss ps hs gs
+    (subst (λ (ns : List ℕ). WrittenAs letter.End ns (drop (end-at c) input)) zn (z .1))
+    fit)))))))
 
 -- rows whose keys rise are present
 module _ {R K : Type 0} (order : K → K → Ordering) (present : R → Bool) (key : R → K) where
@@ -329,33 +331,33 @@ module _ (d : Description) (events : List ℕ) (w : WellFormed d) where
     takes-securities =
         ap (group security-kind (room .securities) 0 None 2) at-securities
         ∙ accepted security-kind security-line GoodSecurity security-lined (d .securities) (room .securities) None 2 from-holdings good-securities
-          (rise-steps security-kind number-order security-key (λ s. s .code) GoodSecurity security-has (λ last s. refl) (d .securities) None good-securities (words-mean number-order numbers-total (map security-key (d .securities)) (w .securities)))
-          (f .securities)
-          (skips letter.Security letter.Holding holding-numbers (d .holdings) from-account-holdings refl (skips letter.Security letter.AccountHolding account-holding-numbers (d .account-holdings) from-designations refl (skips letter.Security letter.Designation designation-numbers (d .designations) from-end refl (not-first letter.Security 69 _ refl))))
+        (rise-steps security-kind number-order security-key (λ s. s .code) GoodSecurity security-has (λ last s. refl) (d .securities) None good-securities (words-mean number-order numbers-total (map security-key (d .securities)) (w .securities)))
+        (f .securities)
+        (skips letter.Security letter.Holding holding-numbers (d .holdings) from-account-holdings refl (skips letter.Security letter.AccountHolding account-holding-numbers (d .account-holdings) from-designations refl (skips letter.Security letter.Designation designation-numbers (d .designations) from-end refl (not-first letter.Security 69 _ refl))))
 
     takes-holdings : group holding-kind (room .holdings) 0 None (2 + length (d .securities)) (drop (holdings-at (counts-of d)) whole) ≡ Ok (length (d .holdings))
     takes-holdings =
         ap (group holding-kind (room .holdings) 0 None (2 + length (d .securities))) at-holdings
         ∙ accepted holding-kind holding-line GoodHolding holding-lined (d .holdings) (room .holdings) None (2 + length (d .securities)) from-account-holdings good-holdings
-          (rise-steps holding-kind pair-order holding-key (λ h. pair (h .participant) (h .code)) GoodHolding holding-has (λ last h. refl) (d .holdings) None good-holdings (words-mean pair-order pairs-total (map holding-key (d .holdings)) (w .holdings)))
-          (f .holdings)
-          (skips letter.Holding letter.AccountHolding account-holding-numbers (d .account-holdings) from-designations refl (skips letter.Holding letter.Designation designation-numbers (d .designations) from-end refl (not-first letter.Holding 69 _ refl)))
+        (rise-steps holding-kind pair-order holding-key (λ h. pair (h .participant) (h .code)) GoodHolding holding-has (λ last h. refl) (d .holdings) None good-holdings (words-mean pair-order pairs-total (map holding-key (d .holdings)) (w .holdings)))
+        (f .holdings)
+        (skips letter.Holding letter.AccountHolding account-holding-numbers (d .account-holdings) from-designations refl (skips letter.Holding letter.Designation designation-numbers (d .designations) from-end refl (not-first letter.Holding 69 _ refl)))
 
     takes-account-holdings : group account-holding-kind (room .«account_holdings») 0 None (2 + length (d .securities) + length (d .holdings)) (drop (account-holdings-at (counts-of d)) whole) ≡ Ok (length (d .account-holdings))
     takes-account-holdings =
         ap (group account-holding-kind (room .«account_holdings») 0 None (2 + length (d .securities) + length (d .holdings))) at-account-holdings
         ∙ accepted account-holding-kind account-holding-line GoodAccountHolding account-holding-lined (d .account-holdings) (room .«account_holdings») None (2 + length (d .securities) + length (d .holdings)) from-designations good-account-holdings
-          (rise-steps account-holding-kind pair-order account-holding-key (λ h. pair (h .account) (h .code)) GoodAccountHolding account-holding-has (λ last h. refl) (d .account-holdings) None good-account-holdings (words-mean pair-order pairs-total (map account-holding-key (d .account-holdings)) (w .account-holdings)))
-          (f .account-holdings)
-          (skips letter.AccountHolding letter.Designation designation-numbers (d .designations) from-end refl (not-first letter.AccountHolding 69 _ refl))
+        (rise-steps account-holding-kind pair-order account-holding-key (λ h. pair (h .account) (h .code)) GoodAccountHolding account-holding-has (λ last h. refl) (d .account-holdings) None good-account-holdings (words-mean pair-order pairs-total (map account-holding-key (d .account-holdings)) (w .account-holdings)))
+        (f .account-holdings)
+        (skips letter.AccountHolding letter.Designation designation-numbers (d .designations) from-end refl (not-first letter.AccountHolding 69 _ refl))
 
     takes-designations : group designation-kind (room .designations) 0 None (2 + length (d .securities) + length (d .holdings) + length (d .account-holdings)) (drop (designations-at (counts-of d)) whole) ≡ Ok (length (d .designations))
     takes-designations =
         ap (group designation-kind (room .designations) 0 None (2 + length (d .securities) + length (d .holdings) + length (d .account-holdings))) at-designations
         ∙ accepted designation-kind designation-line GoodDesignation designation-lined (d .designations) (room .designations) None (2 + length (d .securities) + length (d .holdings) + length (d .account-holdings)) from-end good-designations
-          (designations-follow (d .designations) good-designations (words-mean pair-order pairs-total (map designation-key (d .designations)) (w .designations)) (w .few-named))
-          (f .designations)
-          (not-first letter.Designation 69 _ refl)
+        (designations-follow (d .designations) good-designations (words-mean pair-order pairs-total (map designation-key (d .designations)) (w .designations)) (w .few-named))
+        (f .designations)
+        (not-first letter.Designation 69 _ refl)
 
     ends-day : line-of letter.End (ending-of (counts-of d)) (drop (end-at (counts-of d)) whole) ≡ Ok tt
     ends-day =
@@ -375,6 +377,7 @@ module _ (d : Description) (events : List ℕ) (w : WellFormed d) where
 -- the written form of a description that fits is accepted, and read back as that description
 pub day-written : (input : List ℕ) (room : Counts) (d : Description) → Describes input room d → (day-part input room ≡ Ok (plan-of d)) × (described input (plan-of d) ≡ d)
 day-written input room d is =
-    let e : input ≡ whole d (is .events) (is .well-formed) = is .form ∙ whole-is d (is .events) (is .well-formed) in
-    (ap (λ (t : List ℕ). day-part t room) e ∙ taken d (is .events) (is .well-formed) room (is .fits)
-    , ap (λ (t : List ℕ). described t (plan-of d)) e ∙ same-day d (is .events) (is .well-formed) room (is .fits))
+    let e : input ≡ whole d (is .events) (is .well-formed) = is .form ∙ whole-is d (is .events) (is .well-formed) in (
+      ap (λ (t : List ℕ). day-part t room) e ∙ taken d (is .events) (is .well-formed) room (is .fits),
+      ap (λ (t : List ℕ). described t (plan-of d)) e ∙ same-day d (is .events) (is .well-formed) room (is .fits),
+    )

@@ -70,10 +70,11 @@ same-tables (Err g) f input before e = refl
 -- a load that is refused
 pub refused : (input : List ℕ) (before : Tables) (day : LoadingDay) (f : DayFault) → Err f ≡ day-at part.Day (day-part input (room-of before)) → Load input before (Err (day, f)) before
 refused input before day f e = record {
-    answers = sym e;
-    leaves = same-tables (day-part input (room-of before)) f input before e;
-    described = tt;
-    accepts = λ d is. absurd (day-err (day-part input (room-of before)) f (plan-of d) e (day-written input (room-of before) d is .0)) }
+  answers = sym e;
+  leaves = same-tables (day-part input (room-of before)) f input before e;
+  described = tt;
+  accepts = λ d is. absurd (day-err (day-part input (room-of before)) f (plan-of d) e (day-written input (room-of before) d is .0));
+}
 
 -- the tables hold the lines of what the day part is the written form of
 holds-described : (input : List ℕ) (before : Tables) (made : Plan) → Planned input (room-of before) made → Describes input (room-of before) (described input made) → Holds (described input made) (filled-by made input before)
@@ -88,7 +89,8 @@ holds-described input before made p is =
       account-holdings = a;
       designations = g;
       participants-fresh = subst (λ hs. Fresh (participant-meaning hs)) (sym h) (fresh-lines (described input made .holdings) (fresh-holdings (described input made .holdings) (is .well-formed .holdings-fresh)));
-      accounts-fresh = subst (λ hs. Fresh (account-meaning hs (lines-of (filled-by made input before .designations)))) (sym a) (fresh-account-lines (described input made .account-holdings) (lines-of (filled-by made input before .designations)) (fresh-account-holdings (described input made .account-holdings) (is .well-formed .account-holdings-fresh))) }
+      accounts-fresh = subst (λ hs. Fresh (account-meaning hs (lines-of (filled-by made input before .designations)))) (sym a) (fresh-account-lines (described input made .account-holdings) (lines-of (filled-by made input before .designations)) (fresh-account-holdings (described input made .account-holdings) (is .well-formed .account-holdings-fresh)));
+    }
 
 same-plan : (r : Result Plan LineFault) (a b : Plan) → r ≡ Ok a → r ≡ Ok b → a ≡ b
 same-plan r a b p q = cc
@@ -106,4 +108,5 @@ taken input before after l made e p b f =
       accepts = λ other o.
           let w = day-written input (room-of before) other o in
           let same : described input made ≡ other = ap (described input) (same-plan (day-part input (room-of before)) made (plan-of other) is (w .0)) ∙ w .1 in
-          (refl, subst (λ x. Holds x after) same h) }
+          (refl, subst (λ x. Holds x after) same h);
+    }

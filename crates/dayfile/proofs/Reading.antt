@@ -75,7 +75,7 @@ module _ {X : Type 0} (l : Letter) (make : List ℕ → Result X FieldFault) (da
       let s : Some k ≡ Some l = sym (byte-letter day-letters line k ek) ∙ ap (letter-in day-letters) b ∙ f in
       let q : k ≡ l = cc in
       by-then (numbers-from 0 (letter-rules l .fields) line) make x (c .1) (λ ns en ex.
-          (ns, read-is-written day-letters l ns line (ek ∙ ap Ok q) en, ex)))
+      (ns, read-is-written day-letters l ns line (ek ∙ ap Ok q) en, ex)))
 
   -- and the line that is written of good numbers
   pub line-written : (ns more : List ℕ) (x : X) → Within (letter-rules l .fields) ns → make ns ≡ Ok x → line-of l make (written-line l ns ++ more) ≡ Ok x
@@ -159,20 +159,22 @@ security-read ns x w e =
     let w4 = subst (Within (letter-rules letter.Security .fields)) f w in
     by-then (named-case 18 (buying-numbered (getD ns 1 0))) (λ b. and-then (named-case 50 (band-of-percent (getD ns 3 0))) (λ d. Ok (record { code = getD ns 0 0; buying = b; close = getD ns 2 0; band = d }))) x e (λ b eb e2.
     by-then (named-case 50 (band-of-percent (getD ns 3 0))) (λ d. Ok (record { code = getD ns 0 0; buying = b; close = getD ns 2 0; band = d })) x e2 (λ d ed e3.
-        let q : record { code = getD ns 0 0; buying = b; close = getD ns 2 0; band = d } ≡ x = cc in
-        let m = buying-is (getD ns 1 0) b (named-ok 18 (buying-numbered (getD ns 1 0)) b eb) in
-        let p = band-is (getD ns 3 0) d (named-ok 50 (band-of-percent (getD ns 3 0)) d ed) in
-        (f ∙ ap (λ (n : ℕ). getD ns 0 0 ∷ (n ∷ (getD ns 2 0 ∷ (getD ns 3 0 ∷ [])))) (sym m) ∙ ap (λ (n : ℕ). getD ns 0 0 ∷ (buying-rules b .number ∷ (getD ns 2 0 ∷ (n ∷ [])))) (sym p) ∙ ap security-numbers q
-        , subst GoodSecurity q (rw (w4 .0, w4 .1 .1 .0) refl))))
+    let q : record { code = getD ns 0 0; buying = b; close = getD ns 2 0; band = d } ≡ x = cc in
+    let m = buying-is (getD ns 1 0) b (named-ok 18 (buying-numbered (getD ns 1 0)) b eb) in
+    let p = band-is (getD ns 3 0) d (named-ok 50 (band-of-percent (getD ns 3 0)) d ed) in (
+      f ∙ ap (λ (n : ℕ). getD ns 0 0 ∷ (n ∷ (getD ns 2 0 ∷ (getD ns 3 0 ∷ [])))) (sym m) ∙ ap (λ (n : ℕ). getD ns 0 0 ∷ (buying-rules b .number ∷ (getD ns 2 0 ∷ (n ∷ [])))) (sym p) ∙ ap security-numbers q,
+      subst GoodSecurity q (rw (w4 .0, w4 .1 .1 .0) refl),
+    )))
 
 security-back : (x : Security) → security-of (security-numbers x) ≡ Ok x
 security-back x = rw (buying-back (x .buying), band-back (x .band)) refl
 
 security-said : Said letter.Security security-of security-numbers GoodSecurity
 security-said = record {
-    read = security-read;
-    within = λ x g. (and-parts _ _ g .0, (mode-in (x .buying), (and-parts (in-range (range-of quantity.Code) (x .code)) _ g .1, (band-in (x .band), tt))));
-    back = λ x g. security-back x }
+  read = security-read;
+  within = λ x g. (and-parts _ _ g .0, (mode-in (x .buying), (and-parts (in-range (range-of quantity.Code) (x .code)) _ g .1, (band-in (x .band), tt))));
+  back = λ x g. security-back x;
+}
 
 holding-read : (ns : List ℕ) (x : Holding) → Within (letter-rules letter.Holding .fields) ns → holding-of ns ≡ Ok x → (ns ≡ holding-numbers x) × GoodHolding x
 holding-read ns x w e =
@@ -183,9 +185,10 @@ holding-read ns x w e =
 
 holding-said : Said letter.Holding holding-of holding-numbers GoodHolding
 holding-said = record {
-    read = holding-read;
-    within = λ x g. holding-within x (g .0);
-    back = λ x g. ap (λ (n : ℕ). Ok (record { participant = x .participant; code = x .code; opening = x .opening; sellable = n })) (sym (g .1)) }
+  read = holding-read;
+  within = λ x g. holding-within x (g .0);
+  back = λ x g. ap (λ (n : ℕ). Ok (record { participant = x .participant; code = x .code; opening = x .opening; sellable = n })) (sym (g .1));
+}
   where
     holding-within : (x : Holding) → holding-present x ≡ true → Within (letter-rules letter.Holding .fields) (holding-numbers x)
     holding-within x g = let a = and-parts _ _ g in let b = and-parts _ _ (a .0) in let c = and-parts _ _ (b .0) in (c .0, (c .1, (b .1, tt)))
@@ -199,9 +202,10 @@ account-holding-read ns x w e =
 
 account-holding-said : Said letter.AccountHolding account-holding-of account-holding-numbers GoodAccountHolding
 account-holding-said = record {
-    read = account-holding-read;
-    within = λ x g. account-holding-within x (g .0);
-    back = λ x g. ap (λ (n : ℕ). Ok (record { account = x .account; code = x .code; opening = x .opening; sellable = n })) (sym (g .1)) }
+  read = account-holding-read;
+  within = λ x g. account-holding-within x (g .0);
+  back = λ x g. ap (λ (n : ℕ). Ok (record { account = x .account; code = x .code; opening = x .opening; sellable = n })) (sym (g .1));
+}
   where
     account-holding-within : (x : AccountHolding) → account-holding-present x ≡ true → Within (letter-rules letter.AccountHolding .fields) (account-holding-numbers x)
     account-holding-within x g = let a = and-parts _ _ g in let b = and-parts _ _ (a .0) in let c = and-parts _ _ (b .0) in (c .0, (c .1, (b .1, tt)))
@@ -215,9 +219,10 @@ designation-read ns x w e =
 
 designation-said : Said letter.Designation designation-of designation-numbers GoodDesignation
 designation-said = record {
-    read = designation-read;
-    within = λ x g. let a = and-parts _ _ g in (a .0, (a .1, tt));
-    back = λ x g. refl }
+  read = designation-read;
+  within = λ x g. let a = and-parts _ _ g in (a .0, (a .1, tt));
+  back = λ x g. refl;
+}
 
 -- what a group needs to know of its lines
 module _ {X : Type 0} (l : Letter) (make : List ℕ → Result X FieldFault) (numbers : X → List ℕ) (Good : X → Type 0) (said : Said l make numbers Good) (day : letter-rules l .part ≡ part.Day) where

@@ -26,7 +26,6 @@ use Rattle.dayfile.specs.Groups.{Kind, group, turn, following, starts, no-room
 pub clash : {A : Type 0} → _≡_ {A = ℕ} 0 1 → A
 clash e = absurd (omega arith)
 
-
 pub beside-ok : {T E F : Type 0} (r : Result T E) (p : E → F) (x : T) → beside-of r p ≡ Ok x → r ≡ Ok x
 beside-ok (Ok y) p x e = cc
 beside-ok (Err f) p x e = clash (cc)

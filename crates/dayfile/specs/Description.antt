@@ -103,11 +103,14 @@ pub record Describes (input : List ℕ) (room : Counts) (d : Description) : Type
 -- The description that a day part of this plan is the written form of.
 abbrev pub described : List ℕ → Plan → Description
 described input made = record {
-    market = made .opening .market; date = made .opening .date; quota = made .opening .quota;
-    securities = rows-of security-kind (made .counts .securities) (drop securities-at input);
-    holdings = rows-of holding-kind (made .counts .holdings) (drop (holdings-at (made .counts)) input);
-    account-holdings = rows-of account-holding-kind (made .counts .«account_holdings») (drop (account-holdings-at (made .counts)) input);
-    designations = rows-of designation-kind (made .counts .designations) (drop (designations-at (made .counts)) input) }
+  market = made .opening .market;
+  date = made .opening .date;
+  quota = made .opening .quota;
+  securities = rows-of security-kind (made .counts .securities) (drop securities-at input);
+  holdings = rows-of holding-kind (made .counts .holdings) (drop (holdings-at (made .counts)) input);
+  account-holdings = rows-of account-holding-kind (made .counts .«account_holdings») (drop (account-holdings-at (made .counts)) input);
+  designations = rows-of designation-kind (made .counts .designations) (drop (designations-at (made .counts)) input);
+}
 
 -- The plan of a description.
 abbrev pub plan-of : Description → Plan

@@ -52,10 +52,11 @@ pub record Tables : Type 0 where
 -- The tables by their owners.
 abbrev pub tables-of : SecurityList → Holdings → AccountHoldings → Designations → Tables
 tables-of s p a g = record {
-    securities = record { rows = now (s .rows); count = s .count };
-    holdings = record { rows = now (p .rows); count = p .count };
-    account-holdings = record { rows = now (a .rows); count = a .count };
-    designations = record { rows = now (g .rows); count = g .count } }
+  securities = record { rows = now (s .rows); count = s .count };
+  holdings = record { rows = now (p .rows); count = p .count };
+  account-holdings = record { rows = now (a .rows); count = a .count };
+  designations = record { rows = now (g .rows); count = g .count };
+}
 
 -- How many rows each table has room for.
 abbrev pub room-of : Tables → Counts
@@ -68,10 +69,11 @@ filled kind n input old = record { rows = rows-of kind n input ++ drop n (old .r
 -- The tables after a day part is loaded.
 abbrev pub filled-by : Plan → List ℕ → Tables → Tables
 filled-by made input t = record {
-    securities = filled security-kind (made .counts .securities) (drop securities-at input) (t .securities);
-    holdings = filled holding-kind (made .counts .holdings) (drop (holdings-at (made .counts)) input) (t .holdings);
-    account-holdings = filled account-holding-kind (made .counts .«account_holdings») (drop (account-holdings-at (made .counts)) input) (t .account-holdings);
-    designations = filled designation-kind (made .counts .designations) (drop (designations-at (made .counts)) input) (t .designations) }
+  securities = filled security-kind (made .counts .securities) (drop securities-at input) (t .securities);
+  holdings = filled holding-kind (made .counts .holdings) (drop (holdings-at (made .counts)) input) (t .holdings);
+  account-holdings = filled account-holding-kind (made .counts .«account_holdings») (drop (account-holdings-at (made .counts)) input) (t .account-holdings);
+  designations = filled designation-kind (made .counts .designations) (drop (designations-at (made .counts)) input) (t .designations);
+}
 
 -- The tables after a load: where it is refused, as they were.
 abbrev pub loaded : {E : Type 0} → Result Plan E → List ℕ → Tables → Tables

@@ -10,7 +10,6 @@ ghost use Rattle.rules.specs.Ranges.{in-range, range-of};
 ghost use Rattle.fields.specs.Faults.{day-at};
 ghost use Rattle.dayfile.specs.Rows.{line-of};
 ghost use Rattle.dayfile.specs.DayPart.{agreed, day-part, ending-of, opening-of, Planned};
-
 use super::group::counted;
 use super::kinds::AccountHoldingEntry;
 use super::kinds::DesignationEntry;
@@ -20,13 +19,13 @@ use super::plan::Counts;
 use super::plan::Opening;
 use super::plan::Plan;
 use super::rows::out_of_group;
-use fields::fault::beside;
 use fields::fault::DayFault;
 use fields::fault::DayFaultFrom;
 use fields::fault::FieldFault;
-use fields::fault::in_part;
 use fields::fault::LineFault;
 use fields::fault::LineFaultFrom;
+use fields::fault::beside;
+use fields::fault::in_part;
 use fields::line::DayLine;
 use fields::line::first_byte;
 use rules::letter::Part;
@@ -46,11 +45,19 @@ fn opening(line: &[u8]) -> Result<Opening, FieldFault>
     ensures quota { λ r. ⌜ made r (λ o. in-range (range-of quantity.Quota) (o .quota) ≡ true) ⌝ }
 {
     match DayLine::cut(line)? {
-        DayLine::Day { market, date, quota } => {
+        DayLine::Day {
+            market,
+            date,
+            quota,
+        } => {
             let market = market.ranged(Quantity::Market)?;
             let date = date.ranged(Quantity::Date)?;
             let quota = quota.ranged(Quantity::Quota)?;
-            Ok(Opening { market, date, quota })
+            Ok(Opening {
+                market,
+                date,
+                quota,
+            })
         }
         _ => Err(out_of_group(line)),
     }
@@ -60,7 +67,14 @@ fn opening(line: &[u8]) -> Result<Opening, FieldFault>
 fn agree(column: u64, said: u64, is: usize) -> Result<(), FieldFault>
     ensures { λ r. ⌜ r ≡ agreed column said is ⌝ }
 {
-    if said == is as u64 { Ok(()) } else { Err(FieldFault { cause: Refusal::Count, column }) }
+    if said == is as u64 {
+        Ok(())
+    } else {
+        Err(FieldFault {
+            cause: Refusal::Count,
+            column,
+        })
+    }
 }
 
 // Judges the line after the groups, which has to be an E line with their counts.
@@ -69,7 +83,12 @@ fn ending(line: &[u8], file: Counts) -> Result<(), FieldFault>
     ensures long { λ r. ⌜ made r (λ _. 66 ≤ length (now (line .entry))) ⌝ }
 {
     match DayLine::cut(line)? {
-        DayLine::End { securities, holdings, account_holdings, designations } => {
+        DayLine::End {
+            securities,
+            holdings,
+            account_holdings,
+            designations,
+        } => {
             let s = securities.ranged(Quantity::Lines)?;
             let p = holdings.ranged(Quantity::Lines)?;
             let a = account_holdings.ranged(Quantity::Lines)?;
@@ -101,10 +120,20 @@ fn planned(input: &[u8], room: Counts) -> Result<Plan, LineFault>
     let designations = counted::<Designation>(input, at, line, room.designations)?;
     at += 34 * designations;
     line += designations as u64;
-    let counts = Counts { securities, holdings, account_holdings, designations };
+    let counts = Counts {
+        securities,
+        holdings,
+        account_holdings,
+        designations,
+    };
     let end = &input[at..];
     beside(ending(end, counts), first_byte(end), line)?;
-    Ok(Plan { opening, counts, events: at + 66, line: line + 1 })
+    Ok(Plan {
+        opening,
+        counts,
+        events: at + 66,
+        line: line + 1,
+    })
 }
 
 // Judges the day part: what it says, or its first fault.

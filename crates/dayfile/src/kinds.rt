@@ -1,7 +1,6 @@
 ghost use mathlib.Core.Path.{_≡_};
 ghost use Rattle.tables.specs.Orders.{pair-order};
 ghost use Rattle.dayfile.specs.Kinds.{above, naming, named-next, security-kind, holding-kind, account-holding-kind, designation-kind};
-
 use super::group::Entry;
 use super::rows::account_holding;
 use super::rows::designation;
@@ -31,7 +30,10 @@ fn rising<K: Key + Copy>(last: Option<K>, key: K) -> Result<Option<K>, FieldFaul
     if let Some(before) = last {
         match before.compare(&key) {
             Ordering::Less => {}
-            _ => return Err(FieldFault { cause: Refusal::Sequence, column: 1 }),
+            _ => return Err(FieldFault {
+                cause: Refusal::Sequence,
+                column: 1,
+            }),
         }
     }
     Ok(Some(key))
@@ -42,12 +44,21 @@ fn one_more(run: Run, key: Pair) -> Result<Option<Run>, FieldFault>
     ensures { λ r. ⌜ r ≡ named-next run key ⌝ }
 {
     if run.last.first != key.first {
-        return Ok(Some(Run { last: key, named: 1 }));
+        return Ok(Some(Run {
+            last: key,
+            named: 1,
+        }));
     }
     if run.named < MOST_NAMED {
-        return Ok(Some(Run { last: key, named: run.named + 1 }));
+        return Ok(Some(Run {
+            last: key,
+            named: run.named + 1,
+        }));
     }
-    Err(FieldFault { cause: Refusal::Designations, column: 1 })
+    Err(FieldFault {
+        cause: Refusal::Designations,
+        column: 1,
+    })
 }
 
 // The lines of an account after a designation that may follow.
@@ -55,7 +66,10 @@ fn designated(run: Option<Run>, key: Pair) -> Result<Option<Run>, FieldFault>
     ensures { λ r. ⌜ r ≡ naming run key ⌝ }
 {
     let Some(before) = run else {
-        return Ok(Some(Run { last: key, named: 1 }));
+        return Ok(Some(Run {
+            last: key,
+            named: 1,
+        }));
     };
     rising(Some(before.last), key)?;
     one_more(before, key)
@@ -101,7 +115,13 @@ pub(crate) impl Entry for Holding as HoldingEntry {
     }
 
     fn step(last: Option<Pair>, row: &Holding) -> Result<Option<Pair>, FieldFault> {
-        rising(last, Pair { first: row.participant, second: row.code })
+        rising(
+            last,
+            Pair {
+                first: row.participant,
+                second: row.code,
+            },
+        )
     }
 }
 
@@ -123,7 +143,13 @@ pub(crate) impl Entry for AccountHolding as AccountHoldingEntry {
     }
 
     fn step(last: Option<Pair>, row: &AccountHolding) -> Result<Option<Pair>, FieldFault> {
-        rising(last, Pair { first: row.account, second: row.code })
+        rising(
+            last,
+            Pair {
+                first: row.account,
+                second: row.code,
+            },
+        )
     }
 }
 
@@ -145,6 +171,12 @@ pub(crate) impl Entry for Designation as DesignationEntry {
     }
 
     fn step(run: Option<Run>, row: &Designation) -> Result<Option<Run>, FieldFault> {
-        designated(run, Pair { first: row.account, second: row.participant })
+        designated(
+            run,
+            Pair {
+                first: row.account,
+                second: row.participant,
+            },
+        )
     }
 }

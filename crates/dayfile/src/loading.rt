@@ -6,7 +6,6 @@ ghost use Rattle.rules.specs.Ranges.{in-range, range-of};
 ghost use Rattle.gate.specs.Opened.{OpenedBy};
 ghost use Rattle.dayfile.specs.DayPart.{Planned};
 ghost use Rattle.dayfile.specs.Loads.{filled-by, Load, room-of, tables-of};
-
 use super::group::fill;
 use super::judging::judged;
 use super::kinds::AccountHoldingEntry;
@@ -31,7 +30,12 @@ use tables::security_list::lines::SecurityListTable;
 use tables::table::Table;
 
 // How many rows each table has room for.
-fn rooms(list: &SecurityList, holdings: &Holdings, account_holdings: &AccountHoldings, designations: &Designations) -> Counts
+fn rooms(
+    list: &SecurityList,
+    holdings: &Holdings,
+    account_holdings: &AccountHoldings,
+    designations: &Designations,
+) -> Counts
     ensures { λ r. ⌜ r ≡ room-of (tables-of (now (list .entry)) (now (holdings .entry)) (now («account_holdings» .entry)) (now (designations .entry))) ⌝ }
 {
     Counts {
@@ -43,7 +47,14 @@ fn rooms(list: &SecurityList, holdings: &Holdings, account_holdings: &AccountHol
 }
 
 // Makes the lines of a planned day part those of the tables.
-fn write(plan: Plan, input: &[u8], list: &mut SecurityList, holdings: &mut Holdings, account_holdings: &mut AccountHoldings, designations: &mut Designations)
+fn write(
+    plan: Plan,
+    input: &[u8],
+    list: &mut SecurityList,
+    holdings: &mut Holdings,
+    account_holdings: &mut AccountHoldings,
+    designations: &mut Designations,
+)
     requires { ⌜ Planned (now input) (room-of (tables-of (now list) (now holdings) (now «account_holdings») (now designations))) plan ⌝ }
     ensures { λ _. ⌜ tables-of (now (list .exit)) (now (holdings .exit)) (now («account_holdings» .exit)) (now (designations .exit)) ≡ filled-by plan (now (input .entry)) (tables-of (now (list .entry)) (now (holdings .entry)) (now («account_holdings» .entry)) (now (designations .entry))) ⌝ }
 {
@@ -70,14 +81,25 @@ fn opened(day: LoadingDay, opening: Opening) -> TradingDay
 }
 
 // Loads a day part into the lent tables and opens the day. A refused one gives the loading day back, and no table changes.
-pub fn load(day: LoadingDay, input: &[u8], list: &mut SecurityList, holdings: &mut Holdings, account_holdings: &mut AccountHoldings, designations: &mut Designations) -> Result<Loaded, (LoadingDay, DayFault)>
+pub fn load(
+    day: LoadingDay,
+    input: &[u8],
+    list: &mut SecurityList,
+    holdings: &mut Holdings,
+    account_holdings: &mut AccountHoldings,
+    designations: &mut Designations,
+) -> Result<Loaded, (LoadingDay, DayFault)>
     ensures { λ r. ⌜ Load (now (input .entry)) (tables-of (now (list .entry)) (now (holdings .entry)) (now («account_holdings» .entry)) (now (designations .entry))) r (tables-of (now (list .exit)) (now (holdings .exit)) (now («account_holdings» .exit)) (now (designations .exit))) ⌝ }
 {
     let room = rooms(list, holdings, account_holdings, designations);
     match judged(input, room) {
         Ok(plan) => {
             write(plan, input, list, holdings, account_holdings, designations);
-            Ok(Loaded { day: opened(day, plan.opening), events: plan.events, line: plan.line })
+            Ok(Loaded {
+                day: opened(day, plan.opening),
+                events: plan.events,
+                line: plan.line,
+            })
         }
         Err(fault) => Err((day, fault)),
     }

@@ -43,11 +43,11 @@ day-answered input before after l text load events =
     let d = load .described in
     let lines = listed input (room-of before) after made (d .0) (load .answers .1) (d .1) (d .2) in
     let at-lines : Answered (session (l .day .figures) (described input made .securities) Up) (l .line) (drop (l .events) input) text =
-        subst (λ (s : List Security). Answered (session (l .day .figures) s Up) (l .line) (drop (l .events) input) text) lines events in
+    subst (λ (s : List Security). Answered (session (l .day .figures) s Up) (l .line) (drop (l .events) input) text) lines events in
     let at-line : Answered (session (l .day .figures) (described input made .securities) Up) (made .line) (drop (l .events) input) text =
-        subst (λ (n : ℕ). Answered (session (l .day .figures) (described input made .securities) Up) n (drop (l .events) input) text) (begins .first-line) at-lines in
+    subst (λ (n : ℕ). Answered (session (l .day .figures) (described input made .securities) Up) n (drop (l .events) input) text) (begins .first-line) at-lines in
     let at-place : Answered (session (l .day .figures) (described input made .securities) Up) (made .line) (drop (made .events) input) text =
-        subst (λ (n : ℕ). Answered (session (l .day .figures) (described input made .securities) Up) (made .line) (drop n input) text) (begins .events-begin) at-line in
+    subst (λ (n : ℕ). Answered (session (l .day .figures) (described input made .securities) Up) (made .line) (drop n input) text) (begins .events-begin) at-line in
     answered made (l .day .figures) text (load .answers .1) (begins .opened) at-place
 
 day-fault : (r : Result Plan LineFault) (fault : DayFault) → day-at part.Day r ≡ Err fault → (f : LineFault) × (r ≡ Err f) × (record { line = f; part = part.Day } ≡ fault)

@@ -40,7 +40,7 @@ module _ (s₀ : Session) (nr₀ : ℕ) (rest₀ : List ℕ) (input : List ℕ) 
       let er : event-of (drop from input) ≡ Ok e = sym (ap event-of is) ∙ event-ok (event-of cut) (getD cut 0 0) nr e q in
       let rest : drop (from + w) input ≡ drop (width-of (event-letter e)) (drop from input) = ap (λ (n : ℕ). drop (from + n) input) we ∙ sym (drop-drop (width-of (event-letter e)) from input) in
       let here : Answered (after-event s e) (nr + 1) (drop (width-of (event-letter e)) (drop from input)) more =
-          subst (λ (t : List ℕ). Answered (after-event s e) (nr + 1) t more) rest (subst (λ x. Answered x (nr + 1) (drop (from + w) input) more) a answered) in
+      subst (λ (t : List ℕ). Answered (after-event s e) (nr + 1) t more) rest (subst (λ x. Answered x (nr + 1) (drop (from + w) input) more) a answered) in
       subst (Answered s₀ nr₀ rest₀) (sym (append-assoc text (event-answer s e) more)) (goes (event-answer s e ++ more) (next (drop from input) e more er here))
 
   pub at-fault : (fault : DayFault) → from < length input → Err fault ≡ day-at part.Event (line-at (getD cut 0 0) nr (event-of cut)) → Answered s₀ nr₀ rest₀ (text ++ shown-fault fault)
@@ -49,7 +49,7 @@ module _ (s₀ : Session) (nr₀ : ℕ) (rest₀ : List ℕ) (input : List ℕ) 
       let er : event-of (drop from input) ≡ Err (f .0) = sym (ap event-of is) ∙ f .1 in
       let some : 0 < length (drop from input) = rw (length-drop from input) (omega arith) in
       let shown : shown-fault (record { line = record { field = f .0; letter = getD (drop from input) 0 0; line = nr }; part = part.Event }) ≡ shown-fault fault =
-          ap (λ (t : List ℕ). shown-fault (record { line = record { field = f .0; letter = getD t 0 0; line = nr }; part = part.Event })) (sym is) ∙ sym (ap shown-fault (f .2)) in
+      ap (λ (t : List ℕ). shown-fault (record { line = record { field = f .0; letter = getD t 0 0; line = nr }; part = part.Event })) (sym is) ∙ sym (ap shown-fault (f .2)) in
       subst (λ (t : List ℕ). Answered s₀ nr₀ rest₀ (text ++ t)) shown (goes _ (faulty (drop from input) (f .0) some er))
 
   pub at-end : length input ≤ from → Answered s₀ nr₀ rest₀ text

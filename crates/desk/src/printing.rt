@@ -4,7 +4,6 @@ ghost use Rattle.std.specs.Of.Vec.{vec-items};
 ghost use Rattle.std.specs.Vec.{made};
 ghost use Rattle.fields.specs.Written.{columned, in-columns};
 ghost use Rattle.desk.specs.Printed.{event-line, fault-line, refusal-shown, shown-fault, signed-columns};
-
 use fields::fault::DayFault;
 use rules::letter::Letter;
 use rules::refusal::Refusal;
@@ -50,7 +49,14 @@ fn shown(refusal: Option<Refusal>) -> u64
 }
 
 // Writes an event's line.
-pub(crate) fn put_event(heap: Global, out: &mut Vec<u8>, letter: Letter, refusal: Option<Refusal>, order: u64, balance: i64) -> Result<(), AllocError>
+pub(crate) fn put_event(
+    heap: Global,
+    out: &mut Vec<u8>,
+    letter: Letter,
+    refusal: Option<Refusal>,
+    order: u64,
+    balance: i64,
+) -> Result<(), AllocError>
     ensures { λ r. ⌜ made r (λ _. vec-items (now (out .exit)) ≡ vec-items (now (out .entry)) ++ event-line letter refusal order balance) ⌝ }
 {
     out.push(letter.byte())?;
@@ -65,11 +71,27 @@ pub(crate) fn put_event(heap: Global, out: &mut Vec<u8>, letter: Letter, refusal
 pub(crate) fn put_fault(heap: Global, out: &mut Vec<u8>, fault: DayFault) -> Result<(), AllocError>
     ensures { λ r. ⌜ made r (λ _. vec-items (now (out .exit)) ≡ vec-items (now (out .entry)) ++ shown-fault fault) ⌝ }
 {
-    put_fault_numbers(heap, out, fault.line.field.cause.number(), fault.line.field.column, fault.line.letter as u64, fault.line.line, fault.part.number())
+    put_fault_numbers(
+        heap,
+        out,
+        fault.line.field.cause.number(),
+        fault.line.field.column,
+        fault.line.letter as u64,
+        fault.line.line,
+        fault.part.number(),
+    )
 }
 
 // Writes the line of a fault's numbers.
-pub(crate) fn put_fault_numbers(heap: Global, out: &mut Vec<u8>, cause: u64, column: u64, letter: u64, line: u64, part: u64) -> Result<(), AllocError>
+pub(crate) fn put_fault_numbers(
+    heap: Global,
+    out: &mut Vec<u8>,
+    cause: u64,
+    column: u64,
+    letter: u64,
+    line: u64,
+    part: u64,
+) -> Result<(), AllocError>
     ensures { λ r. ⌜ made r (λ _. vec-items (now (out .exit)) ≡ vec-items (now (out .entry)) ++ fault-line cause column letter line part) ⌝ }
 {
     out.push(b'!')?;

@@ -6,16 +6,15 @@ ghost use Rattle.rules.specs.declared.letter.Part.the-variants as part;
 ghost use Rattle.fields.specs.Faults.{day-at, line-at};
 ghost use Rattle.fields.specs.Layout.{width-of};
 ghost use Rattle.desk.specs.Events.{event-letter, event-of, link-numbered};
-
 use super::event::Event;
 use super::event::Link;
-use fields::fault::beside;
 use fields::fault::DayFault;
 use fields::fault::DayFaultFrom;
 use fields::fault::FieldFault;
-use fields::fault::in_part;
 use fields::fault::LineFault;
 use fields::fault::LineFaultFrom;
+use fields::fault::beside;
+use fields::fault::in_part;
 use fields::line::EventLine;
 use fields::line::first_byte;
 use rules::letter::Letter;
@@ -41,15 +40,26 @@ fn event(rest: &[u8]) -> Result<Event, FieldFault>
 {
     match EventLine::cut(rest)? {
         EventLine::Step => Ok(Event::Step),
-        EventLine::Notice { code, foreign, total } => {
+        EventLine::Notice {
+            code,
+            foreign,
+            total,
+        } => {
             let code = code.ranged(Quantity::AnyNumber)?;
             let foreign = foreign.ranged(Quantity::AnyNumber)?;
             let total = total.ranged(Quantity::AnyNumber)?;
-            Ok(Event::Notice { code, foreign, total })
+            Ok(Event::Notice {
+                code,
+                foreign,
+                total,
+            })
         }
         EventLine::Link { state } => match link_numbered(state.ranged(Quantity::Link)?) {
             Some(state) => Ok(Event::Link { state }),
-            None => Err(FieldFault { cause: Refusal::Range, column: 2 }),
+            None => Err(FieldFault {
+                cause: Refusal::Range,
+                column: 2,
+            }),
         },
     }
 }

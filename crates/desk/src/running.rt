@@ -9,7 +9,6 @@ ghost use Rattle.tables.specs.Lines.{security-lines};
 ghost use Rattle.desk.specs.Answered.{Answered, event-answer};
 ghost use Rattle.desk.specs.Events.{after-event, session};
 ghost use Rattle.desk.specs.declared.event.Link.the-variants.{Up};
-
 use super::event::Event;
 use super::event::Link;
 use super::printing::put_event;
@@ -24,7 +23,14 @@ use std::alloc::Global;
 use tables::security_list::SecurityList;
 
 // Does an event's work and writes its line.
-fn respond(heap: Global, event: Event, day: &mut TradingDay, list: &mut SecurityList, link: &mut Link, out: &mut Vec<u8>) -> Result<(), AllocError>
+fn respond(
+    heap: Global,
+    event: Event,
+    day: &mut TradingDay,
+    list: &mut SecurityList,
+    link: &mut Link,
+    out: &mut Vec<u8>,
+) -> Result<(), AllocError>
     ensures after { λ _. ⌜ session (now (day .exit) .figures) (security-lines (now (list .exit))) (now (link .exit)) ≡ after-event (session (now (day .entry) .figures) (security-lines (now (list .entry))) (now (link .entry))) event ⌝ }
     ensures wrote { λ r. ⌜ made r (λ _. vec-items (now (out .exit)) ≡ vec-items (now (out .entry)) ++ event-answer (session (now (day .entry) .figures) (security-lines (now (list .entry))) (now (link .entry))) event) ⌝ }
 {
@@ -33,7 +39,15 @@ fn respond(heap: Global, event: Event, day: &mut TradingDay, list: &mut Security
 }
 
 // Answers the events from a place of the input on, in a session whose link is up.
-pub(crate) fn answer_events(heap: Global, input: &[u8], at: usize, line: u64, day: &mut TradingDay, list: &mut SecurityList, out: &mut Vec<u8>) -> Result<(), AllocError>
+pub(crate) fn answer_events(
+    heap: Global,
+    input: &[u8],
+    at: usize,
+    line: u64,
+    day: &mut TradingDay,
+    list: &mut SecurityList,
+    out: &mut Vec<u8>,
+) -> Result<(), AllocError>
     requires { ⌜ at ≤ length (now input) ⌝ ∗ ⌜ line ≤ at + 1 ⌝ }
     ensures { λ r. ⌜ made r (λ _. (text : List ℕ) × (vec-items (now (out .exit)) ≡ vec-items (now (out .entry)) ++ text) × Answered (session (now (day .entry) .figures) (security-lines (now (list .entry))) Up) line (drop at (now (input .entry))) text) ⌝ }
 {

@@ -26,5 +26,6 @@ same-desk f f′ l l′ a b = cc
 -- an accepted notice
 pub did-notice : (f f′ : Figures) (lines lines′ : List Security) (code foreign total place : ℕ) → Some place ≡ listed lines code → false ≡ unfit-notice foreign total → f′ ≡ settled f → lines′ ≡ set lines place (noticed (getD lines place no-security) (notice-band foreign total)) → Did (desk f lines) (notice code foreign total) None (desk f′ lines′)
 did-notice f f′ lines lines′ code foreign total place at fit g l = record {
-    answers = rw (← at, ← fit) refl;
-    becomes = rw (← at, ← fit) (same-desk f′ (settled f) lines′ (set lines place (noticed (getD lines place no-security) (notice-band foreign total))) g l) }
+  answers = rw (← at, ← fit) refl;
+  becomes = rw (← at, ← fit) (same-desk f′ (settled f) lines′ (set lines place (noticed (getD lines place no-security) (notice-band foreign total))) g l);
+}

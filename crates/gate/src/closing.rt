@@ -3,7 +3,6 @@ ghost use Rattle.std.specs.Results.{Cases};
 ghost use Rattle.std.specs.declared.option.Option.the-variants.{None, Some};
 ghost use Rattle.rules.specs.Rules.{first-broken};
 ghost use Rattle.gate.specs.Closed.{closing-rules};
-
 use super::day::ClosedDay;
 use super::day::TradingDay;
 use super::figures::Figures;
@@ -11,20 +10,16 @@ use rules::phase::Phase;
 use rules::refusal::Refusal;
 
 impl TradingDay {
-    // The day's figures as they stand.
-    pub fn figures(&self) -> Figures
-        ensures { λ r. ⌜ r ≡ now (self .entry) .figures ⌝ }
-    {
-        self.figures
-    }
-
     // Ends the day with its figures, after hours and with no order counted; else the trading day comes back as it was.
     pub fn close(self) -> Result<ClosedDay, (TradingDay, Refusal)>
         ensures { λ r. ⌜ Cases r (λ closed. (first-broken (closing-rules (self .figures)) ≡ None) × (closed .figures ≡ self .figures)) (λ back. (first-broken (closing-rules (self .figures)) ≡ Some (back .1)) × (back .0 .figures ≡ self .figures)) ⌝ }
     {
         match self.figures.phase {
             Phase::AfterHours => {}
-            Phase::OpeningCall | Phase::OpeningCallNoCancel | Phase::Continuous | Phase::ClosingCall => {
+            Phase::OpeningCall
+            | Phase::OpeningCallNoCancel
+            | Phase::Continuous
+            | Phase::ClosingCall => {
                 return Err((self, Refusal::Business));
             }
         }
@@ -39,8 +34,8 @@ impl TradingDay {
     pub fn leave(self) -> Figures
         ensures { λ r. ⌜ r ≡ self .figures ⌝ }
     {
-        let TradingDay { figures } = self;
-        figures
+        let TradingDay { figures: left } = self;
+        left
     }
 }
 

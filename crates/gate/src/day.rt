@@ -5,7 +5,7 @@ ghost use lib.IntN.{natAbs};
 ghost use Rattle.gate.specs.Balances.{most-balance, most-orders, shut-in-time};
 use super::figures::Figures;
 
-// A day before it opens: its tables are being loaded.
+// A day before it opens: its tables are being loaded, and it has no number yet.
 pub struct LoadingDay {}
 
 // A day on which orders are taken.

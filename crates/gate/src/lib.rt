@@ -4,4 +4,5 @@ pub mod day;
 pub mod figures;
 pub mod noticing;
 pub mod opening;
+pub mod reading;
 pub mod stepping;

@@ -13,13 +13,6 @@ use rules::range::Quantity;
 use rules::refusal::Refusal;
 
 impl LoadingDay {
-    // A day to be loaded.
-    pub fn begin() -> LoadingDay
-        ensures { λ r. ⌜ r ≡ record {} ⌝ }
-    {
-        LoadingDay {}
-    }
-
     // The trading day of a market, a date and a quota; a number out of its range gives the loading day back.
     pub fn open(
         self,

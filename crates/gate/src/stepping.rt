@@ -6,7 +6,6 @@ ghost use Rattle.tables.specs.declared.rows.Security.{Security as a-security};
 ghost use Rattle.gate.specs.Balances.{settled, shut-in-time};
 ghost use Rattle.gate.specs.Calls.{desk, Did};
 ghost use Rattle.gate.specs.Calls.{step as a-step};
-
 use super::day::TradingDay;
 use super::figures::Figures;
 use rules::refusal::Refusal;
@@ -17,7 +16,10 @@ pub(super) fn settle(f: Figures) -> Figures
     ensures timely { λ r. ⌜ shut-in-time r ≡ true ⌝ }
 {
     let low = f.phase.shuts() && f.balance <= 0;
-    Figures { shut: f.shut || low, ..f }
+    Figures {
+        shut: f.shut || low,
+        ..f
+    }
 }
 
 impl TradingDay {

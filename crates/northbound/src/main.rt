@@ -2,7 +2,6 @@ ghost use mathlib.Core.Path.{_≡_};
 ghost use Prim.Native.Nat.{_+_, _≤_};
 ghost use Rattle.std.specs.Of.Vec.{vec-len};
 ghost use Rattle.std.specs.Vec.{made};
-
 use desk::output::MOST_INPUT;
 use desk::output::output;
 use std::error::AnyError;

@@ -22,7 +22,7 @@ impl Part {
 }
 
 // The kinds of line, each of which has a letter.
-#[derive(Clone, Copy, PartialEq, Eq, Debug)]
+#[derive(Clone, Copy)]
 pub enum Letter {
     Day,
     Security,

@@ -2,7 +2,7 @@ ghost use mathlib.Core.Path.{_≡_};
 ghost use Rattle.rules.specs.Notices.{notice-band, unfit-notice};
 
 // Where a notice's foreign shares stand to the marks of their holding limit.
-#[derive(Clone, Copy, PartialEq, Eq, Debug)]
+#[derive(Clone, Copy)]
 pub enum NoticeBand {
     Suspending,
     Between,

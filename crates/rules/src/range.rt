@@ -2,7 +2,7 @@ ghost use mathlib.Core.Path.{_≡_};
 ghost use Rattle.rules.specs.Ranges.{in-range, range-of};
 
 // The numbers from the least to the most, both included, that are multiples of the unit.
-#[derive(Clone, Copy, PartialEq, Eq, Debug)]
+#[derive(Clone, Copy)]
 pub struct Range {
     pub least: u64,
     pub most: u64,
@@ -21,7 +21,7 @@ impl Range {
 }
 
 // The kinds of number that the rules bound.
-#[derive(Clone, Copy, PartialEq, Eq, Debug)]
+#[derive(Clone, Copy)]
 pub enum Quantity {
     Market,
     Date,
@@ -41,7 +41,7 @@ pub enum Quantity {
 }
 
 impl Quantity {
-    pub fn range(self) -> Range
+    fn range(self) -> Range
         ensures { λ r. ⌜ r ≡ range-of self ⌝ }
     {
         match self {

@@ -102,7 +102,7 @@ fn follows<K: Key + Copy>(last: &Option<K>, k: &K) -> bool
 }
 
 // Whether every row is present, and each key is above the one before it.
-pub fn rises<R: Row>(rows: &[R]) -> bool
+pub(crate) fn rises<R: Row>(rows: &[R]) -> bool
     ensures is { λ r. ⌜ r ≡ rise (Key·Key .order) (R·Row .named) (now (rows .entry)) ⌝ }
     ensures sound { λ r. ⌜ (r ≡ true → Rising (Key·Key .order) (map (R·Row .named) (now (rows .entry)))) ⌝ }
     ensures whole { λ r. ⌜ (Rising (Key·Key .order) (map (R·Row .named) (now (rows .entry))) → r ≡ true) ⌝ }
@@ -121,7 +121,7 @@ pub fn rises<R: Row>(rows: &[R]) -> bool
 }
 
 // What `find` finds: by halving where the rows are known to rise, else by a walk.
-pub fn look<R: Row>(rows: &[R], key: &R::Key, rising: bool) -> Option<usize>
+pub(crate) fn look<R: Row>(rows: &[R], key: &R::Key, rising: bool) -> Option<usize>
     ensures is { λ r. ⌜ ((rising ≡ true → rise (Key·Key .order) (R·Row .named) (now (rows .entry)) ≡ true) → r ≡ seek (Key·Key .order) 0 (map (R·Row .named) (now (rows .entry))) (now (key .entry))) ⌝ }
     ensures means { λ r. ⌜ ((rising ≡ true → rise (Key·Key .order) (R·Row .named) (now (rows .entry)) ≡ true) → Found (Key·Key .order) (map (R·Row .named) (now (rows .entry))) (now (key .entry)) r) ⌝ }
     ensures held { λ r. ⌜ Held (map (R·Row .named) (now (rows .entry))) (now (key .entry)) r ⌝ }
@@ -166,7 +166,7 @@ fn holds_rising<R: Row<Key = Pair>>(rows: &[R], first: u64) -> bool
 }
 
 // Whether some present row has the first number in its key: by halving where the rows are known to rise, else by a walk.
-pub fn holds<R: Row<Key = Pair>>(rows: &[R], first: u64, rising: bool) -> bool
+pub(crate) fn holds<R: Row<Key = Pair>>(rows: &[R], first: u64, rising: bool) -> bool
     ensures { λ r. ⌜ ((rising ≡ true → rise pair-order (R·Row .named) (now (rows .entry)) ≡ true) → r ≡ some-of first (map (R·Row .named) (now (rows .entry)))) ⌝ }
 {
     if rising {

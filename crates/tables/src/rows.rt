@@ -22,7 +22,7 @@ pub struct Pair {
 }
 
 impl Pair {
-    pub fn of(first: u64, second: u64) -> Pair
+    pub(crate) fn of(first: u64, second: u64) -> Pair
         ensures { λ r. ⌜ r ≡ pair first second ⌝ }
     {
         Pair { first, second }
@@ -72,7 +72,7 @@ fn is_position(code: u64, opening: u64, sellable: u64) -> bool
 
 impl Security {
     // Whether the row is a line: its numbers are in range.
-    pub fn is_present(&self) -> bool
+    pub(crate) fn is_present(&self) -> bool
         ensures { λ r. ⌜ r ≡ security-present (now (self .entry)) ⌝ }
     {
         Quantity::Code.has(self.code) && Quantity::Close.has(self.close)
@@ -100,7 +100,7 @@ impl AccountHolding {
 
 impl Designation {
     // Whether the row is a line: its numbers are in range.
-    pub fn is_present(&self) -> bool
+    pub(crate) fn is_present(&self) -> bool
         ensures { λ r. ⌜ r ≡ designation-present (now (self .entry)) ⌝ }
     {
         Quantity::Account.has(self.account) && Quantity::Participant.has(self.participant)

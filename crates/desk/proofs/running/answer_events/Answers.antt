@@ -22,12 +22,15 @@ events-again c =
     let s = session (c .events .day .figures) (take (c .events .list .count) (c .events .list .rows .now)) (c .events .link) in
     let tr = take-rest input from in
     let w : c .line-width-from .result ≡ width-of (event-letter (c .in-Ok .event)) = c .line-width-from .ensures .is ∙ ap width-of (c .letter .ensures) in
-    let long : width-of (event-letter (c .in-Ok .event)) ≤ length (take (length input - from) (drop from input)) = c .in-Ok .ensures tt .long in
-    (omega (arith, w, long, ap length tr, length-drop from input)
-    , omega (arith, w, c .events .inv .1)
-    , (text ++ event-answer s (c .in-Ok .event)
-      , c .in-Continue-respond .ensures tt .wrote ∙ ap (λ (t : List ℕ). t ++ event-answer s (c .in-Ok .event)) (c .events .inv .2 .1) ∙ append-assoc (vec-items (c .args .out .now)) text (event-answer s (c .in-Ok .event))
-      , one-more s₀ (c .args .line) (drop (c .args .at) input) input text s (c .events .number) from (c .events .inv .2 .2) (take (length input - from) (drop from input)) tr (c .in-Ok .event) (session (c .respond .last .day .figures) (take (c .respond .last .list .count) (c .respond .last .list .rows .now)) (c .respond .last .link)) (c .line-width-from .result) (c .in-Ok .ensures tt .is) (c .respond .ensures .after) w))
+    let long : width-of (event-letter (c .in-Ok .event)) ≤ length (take (length input - from) (drop from input)) = c .in-Ok .ensures tt .long in (
+      omega (arith, w, long, ap length tr, length-drop from input),
+      omega (arith, w, c .events .inv .1),
+      (
+        text ++ event-answer s (c .in-Ok .event),
+        c .in-Continue-respond .ensures tt .wrote ∙ ap (λ (t : List ℕ). t ++ event-answer s (c .in-Ok .event)) (c .events .inv .2 .1) ∙ append-assoc (vec-items (c .args .out .now)) text (event-answer s (c .in-Ok .event)),
+        one-more s₀ (c .args .line) (drop (c .args .at) input) input text s (c .events .number) from (c .events .inv .2 .2) (take (length input - from) (drop from input)) tr (c .in-Ok .event) (session (c .respond .last .day .figures) (take (c .respond .last .list .count) (c .respond .last .list .rows .now)) (c .respond .last .link)) (c .line-width-from .result) (c .in-Ok .ensures tt .is) (c .respond .ensures .after) w,
+      ),
+    )
 
 pub returns-in-Err : need.returns-in-Err
 returns-in-Err c =
@@ -37,10 +40,11 @@ returns-in-Err c =
     let s₀ = session (c .args .day .now .figures) (take (c .args .list .now .count) (c .args .list .now .rows .now)) Up in
     let s = session (c .events .day .figures) (take (c .events .list .count) (c .events .list .rows .now)) (c .events .link) in
     made-so (c .put-fault .result)
-    (λ wrote.
-        (text ++ shown-fault (c .in-Err .fault)
-        , wrote ∙ ap (λ (t : List ℕ). t ++ shown-fault (c .in-Err .fault)) (c .events .inv .2 .1) ∙ append-assoc (vec-items (c .args .out .now)) text (shown-fault (c .in-Err .fault))
-        , at-fault s₀ (c .args .line) (drop (c .args .at) input) input text s (c .events .number) from (c .events .inv .2 .2) (take (length input - from) (drop from input)) (take-rest input from) (c .in-Err .fault) (c .events-test .taken) (c .in-Err .ensures tt .is)))
+    (λ wrote. (
+      text ++ shown-fault (c .in-Err .fault),
+      wrote ∙ ap (λ (t : List ℕ). t ++ shown-fault (c .in-Err .fault)) (c .events .inv .2 .1) ∙ append-assoc (vec-items (c .args .out .now)) text (shown-fault (c .in-Err .fault)),
+      at-fault s₀ (c .args .line) (drop (c .args .at) input) input text s (c .events .number) from (c .events .inv .2 .2) (take (length input - from) (drop from input)) (take-rest input from) (c .in-Err .fault) (c .events-test .taken) (c .in-Err .ensures tt .is),
+    ))
     (c .put-fault .ensures)
 
 pub returns : need.returns

@@ -13,8 +13,8 @@ Inv-events l =
     (l .from ≤ length (l .input))
     × (l .number ≤ l .from + 1)
     × ((text : List ℕ) × (vec-items (l .out) ≡ vec-items (l .entry .out) ++ text)
-      × ((more : List ℕ) → Answered (session (l .day .figures) (take (l .list .count) (l .list .rows .now)) (l .link)) (l .number) (drop (l .from) (l .input)) more
-        → Answered (session (l .entry .day .figures) (take (l .entry .list .count) (l .entry .list .rows .now)) Up) (l .line) (drop (l .at) (l .input)) (text ++ more)))
+    × ((more : List ℕ) → Answered (session (l .day .figures) (take (l .list .count) (l .list .rows .now)) (l .link)) (l .number) (drop (l .from) (l .input)) more
+    → Answered (session (l .entry .day .figures) (take (l .entry .list .count) (l .entry .list .rows .now)) Up) (l .line) (drop (l .at) (l .input)) (text ++ more)))
 
 abbrev pub μ-events : given.MeasureT-events
 μ-events l = length (l .input) - l .from

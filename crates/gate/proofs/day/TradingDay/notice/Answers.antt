@@ -18,8 +18,9 @@ returns c =
     let done : c .note .result ≡ true = c .note .ensures .done ∙ lt-ltb place count lt in
     let wrote = c .note .ensures .wrote ∙ ap (λ b. cond b (set rows place (noticed (getD rows place no-security) (c .of .result))) rows) done in
     record {
-        did = did-notice (c .args .self .now .figures) (c .settle-self .result) lines (take (c .note .last .self .count) (c .note .last .self .rows .now)) (c .args .code) (c .args .foreign) (c .args .total) place
-            (c .in-Some .ensures tt .is) (c .if-is-unfit .ensures tt) (c .settle-self .ensures .value)
-            (c .note .ensures .lines ∙ ap (λ b. cond b (set lines place (noticed (getD lines place no-security) (c .of .result))) lines) done ∙ ap (λ b. set lines place (noticed (getD lines place no-security) b)) (c .of .ensures));
-        counted = c .note .ensures .counted;
-        rest = ap (λ n. drop n (c .note .last .self .rows .now)) (c .note .ensures .counted) ∙ ap (drop count) wrote ∙ drop-set-lt count rows place (noticed (getD rows place no-security) (c .of .result)) lt }
+      did = did-notice (c .args .self .now .figures) (c .settle-self .result) lines (take (c .note .last .self .count) (c .note .last .self .rows .now)) (c .args .code) (c .args .foreign) (c .args .total) place
+          (c .in-Some .ensures tt .is) (c .if-is-unfit .ensures tt) (c .settle-self .ensures .value)
+          (c .note .ensures .lines ∙ ap (λ b. cond b (set lines place (noticed (getD lines place no-security) (c .of .result))) lines) done ∙ ap (λ b. set lines place (noticed (getD lines place no-security) b)) (c .of .ensures));
+      counted = c .note .ensures .counted;
+      rest = ap (λ n. drop n (c .note .last .self .rows .now)) (c .note .ensures .counted) ∙ ap (drop count) wrote ∙ drop-set-lt count rows place (noticed (getD rows place no-security) (c .of .result)) lt;
+    }
