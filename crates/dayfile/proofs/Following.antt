@@ -16,10 +16,10 @@ use Rattle.std.specs.declared.cmp.Ordering.the-variants.{Less, Equal, Greater}
 use Rattle.std.proofs.shelf.Tests.{and-parts, cases-eq, eq-eqb, ne-eqb, lt-ltb}
 use Rattle.std.proofs.shelf.Ways.{tells}
 use Rattle.rules.specs.declared.refusal.Refusal.the-variants as refusal
-use Rattle.tables.specs.declared.rows.Pair.{Pair}
+use Rattle.lookup.specs.declared.key.Pair.{Pair}
 use Rattle.tables.specs.declared.rows.Designation.{Designation}
-use Rattle.tables.specs.Lookup.{is-above, rise-from}
-use Rattle.tables.specs.Orders.{pair-order, is-less}
+use Rattle.lookup.specs.Lookup.{is-above, rise-from}
+use Rattle.lookup.specs.Orders.{pair-order, is-less}
 use Rattle.tables.specs.Rows.{pair, designation-present, designation-key}
 use Rattle.fields.specs.declared.fault.FieldFault.{FieldFault}
 use Rattle.fields.specs.Faults.{and-then}

@@ -20,16 +20,16 @@ use Rattle.rules.specs.declared.letter.Letter.{Letter}
 use Rattle.rules.specs.declared.letter.Letter.the-variants as letter
 use Rattle.rules.specs.declared.refusal.Refusal.the-variants as refusal
 use Rattle.rules.specs.Letters.{letter-rules}
-use Rattle.tables.specs.declared.rows.Pair.{Pair}
+use Rattle.lookup.specs.declared.key.Pair.{Pair}
 use Rattle.tables.specs.declared.rows.Security.{Security}
 use Rattle.tables.specs.declared.rows.Holding.{Holding}
 use Rattle.tables.specs.declared.rows.AccountHolding.{AccountHolding}
 use Rattle.tables.specs.declared.rows.Designation.{Designation}
-use Rattle.tables.specs.Lookup.{Rising, is-above, rise-from}
-use Rattle.tables.specs.Orders.{TotalOrder, number-order, pair-order}
+use Rattle.lookup.specs.Lookup.{Rising, is-above, rise-from}
+use Rattle.lookup.specs.Orders.{TotalOrder, number-order, pair-order}
 use Rattle.tables.specs.Rows.{pair, security-present, security-key, holding-present, holding-key, account-holding-present, account-holding-key, designation-present, designation-key}
-use Rattle.tables.proofs.Rise.{rising-means, words-mean}
-use Rattle.tables.proofs.Holders.{pairs-total}
+use Rattle.lookup.proofs.Rise.{rising-means, words-mean}
+use Rattle.lookup.proofs.Holders.{pairs-total}
 use Rattle.fields.specs.declared.fault.FieldFault.{FieldFault}
 use Rattle.fields.specs.declared.fault.LineFault.{LineFault}
 use Rattle.fields.specs.Faults.{and-then, beside-of, line-at}

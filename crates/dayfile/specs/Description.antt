@@ -15,8 +15,8 @@ use Rattle.tables.specs.declared.rows.Security.{Security}
 use Rattle.tables.specs.declared.rows.Holding.{Holding}
 use Rattle.tables.specs.declared.rows.AccountHolding.{AccountHolding}
 use Rattle.tables.specs.declared.rows.Designation.{Designation}
-use Rattle.tables.specs.Lookup.{Rising}
-use Rattle.tables.specs.Orders.{number-order, pair-order}
+use Rattle.lookup.specs.Lookup.{Rising}
+use Rattle.lookup.specs.Orders.{number-order, pair-order}
 use Rattle.tables.specs.Rows.{security-key, holding-key, account-holding-key, designation-key}
 use Rattle.fields.specs.Numbers.{Within, written-line}
 use Rattle.dayfile.specs.declared.plan.Counts.{Counts}

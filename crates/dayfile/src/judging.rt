@@ -15,9 +15,15 @@ use super::kinds::AccountHoldingEntry;
 use super::kinds::DesignationEntry;
 use super::kinds::HoldingEntry;
 use super::kinds::SecurityEntry;
+use super::plan::ACCOUNT_HOLDING_LINE;
 use super::plan::Counts;
+use super::plan::DAY_LINE;
+use super::plan::DESIGNATION_LINE;
+use super::plan::END_LINE;
+use super::plan::HOLDING_LINE;
 use super::plan::Opening;
 use super::plan::Plan;
+use super::plan::SECURITY_LINE;
 use super::rows::out_of_group;
 use fields::fault::DayFault;
 use fields::fault::DayFaultFrom;
@@ -108,17 +114,17 @@ fn planned(input: &[u8], room: Counts) -> Result<Plan, LineFault>
     ensures planned { λ r. ⌜ made r (λ plan. Planned (now (input .entry)) room plan) ⌝ }
 {
     let opening = beside(opening(input), first_byte(input), 1)?;
-    let securities = counted::<Security>(input, 50, 2, room.securities)?;
-    let mut at = 50 + 66 * securities;
+    let securities = counted::<Security>(input, DAY_LINE, 2, room.securities)?;
+    let mut at = DAY_LINE + SECURITY_LINE * securities;
     let mut line = 2 + securities as u64;
     let holdings = counted::<Holding>(input, at, line, room.holdings)?;
-    at += 50 * holdings;
+    at += HOLDING_LINE * holdings;
     line += holdings as u64;
     let account_holdings = counted::<AccountHolding>(input, at, line, room.account_holdings)?;
-    at += 50 * account_holdings;
+    at += ACCOUNT_HOLDING_LINE * account_holdings;
     line += account_holdings as u64;
     let designations = counted::<Designation>(input, at, line, room.designations)?;
-    at += 34 * designations;
+    at += DESIGNATION_LINE * designations;
     line += designations as u64;
     let counts = Counts {
         securities,
@@ -131,7 +137,7 @@ fn planned(input: &[u8], room: Counts) -> Result<Plan, LineFault>
     Ok(Plan {
         opening,
         counts,
-        events: at + 66,
+        events: at + END_LINE,
         line: line + 1,
     })
 }

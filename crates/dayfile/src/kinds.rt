@@ -1,5 +1,5 @@
 ghost use mathlib.Core.Path.{_≡_};
-ghost use Rattle.tables.specs.Orders.{pair-order};
+ghost use Rattle.lookup.specs.Orders.{pair-order};
 ghost use Rattle.dayfile.specs.Kinds.{above, naming, named-next, security-kind, holding-kind, account-holding-kind, designation-kind};
 use super::group::Entry;
 use super::rows::account_holding;
@@ -8,16 +8,16 @@ use super::rows::holding;
 use super::rows::security;
 use super::run::Run;
 use fields::fault::FieldFault;
+use lookup::key::Key;
+use lookup::key::NumberKey;
+use lookup::key::Pair;
+use lookup::key::PairKey;
 use rules::letter::Letter;
 use rules::refusal::Refusal;
 use std::cmp::Ordering;
-use tables::key::Key;
-use tables::key::NumberKey;
-use tables::key::PairKey;
 use tables::rows::AccountHolding;
 use tables::rows::Designation;
 use tables::rows::Holding;
-use tables::rows::Pair;
 use tables::rows::Security;
 
 // An account may name so many participants.

@@ -13,9 +13,13 @@ use super::kinds::DesignationEntry;
 use super::kinds::HoldingEntry;
 use super::kinds::SecurityEntry;
 use super::loaded::Loaded;
+use super::plan::ACCOUNT_HOLDING_LINE;
 use super::plan::Counts;
+use super::plan::DAY_LINE;
+use super::plan::HOLDING_LINE;
 use super::plan::Opening;
 use super::plan::Plan;
+use super::plan::SECURITY_LINE;
 use fields::fault::DayFault;
 use gate::day::LoadingDay;
 use gate::day::TradingDay;
@@ -59,13 +63,13 @@ fn write(
     ensures { λ _. ⌜ tables-of (now (list .exit)) (now (holdings .exit)) (now («account_holdings» .exit)) (now (designations .exit)) ≡ filled-by plan (now (input .entry)) (tables-of (now (list .entry)) (now (holdings .entry)) (now («account_holdings» .entry)) (now (designations .entry))) ⌝ }
 {
     let counts = plan.counts;
-    let mut at = 50;
+    let mut at = DAY_LINE;
     fill(list, input, at, counts.securities);
-    at += 66 * counts.securities;
+    at += SECURITY_LINE * counts.securities;
     fill(holdings, input, at, counts.holdings);
-    at += 50 * counts.holdings;
+    at += HOLDING_LINE * counts.holdings;
     fill(account_holdings, input, at, counts.account_holdings);
-    at += 50 * counts.account_holdings;
+    at += ACCOUNT_HOLDING_LINE * counts.account_holdings;
     fill(designations, input, at, counts.designations);
 }
 

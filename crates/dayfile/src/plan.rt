@@ -1,3 +1,16 @@
+// How many bytes a line of each letter takes: its letter, sixteen for each field, a line feed.
+pub(crate) const DAY_LINE: usize = 50;
+
+pub(crate) const SECURITY_LINE: usize = 66;
+
+pub(crate) const HOLDING_LINE: usize = 50;
+
+pub(crate) const ACCOUNT_HOLDING_LINE: usize = 50;
+
+pub(crate) const DESIGNATION_LINE: usize = 34;
+
+pub(crate) const END_LINE: usize = 66;
+
 // What a D line says.
 #[derive(Clone, Copy, PartialEq, Eq, Debug)]
 pub struct Opening {

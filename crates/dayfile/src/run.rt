@@ -1,4 +1,4 @@
-use tables::rows::Pair;
+use lookup::key::Pair;
 
 // The lines so far of one account: the last one's key, and how many participants it has named.
 #[derive(Clone, Copy)]

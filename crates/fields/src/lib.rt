@@ -2,5 +2,3 @@
 pub mod fault;
 pub mod field;
 pub mod line;
-#[cfg(test)]
-mod tests;

@@ -12,8 +12,8 @@ use Rattle.rules.specs.Notices.{notice-band, unfit-notice}
 use Rattle.rules.specs.Phases.{phase-rules}
 use Rattle.rules.specs.Rules.{when, first-broken, kept-or}
 use Rattle.tables.specs.declared.rows.Security.{Security}
-use Rattle.tables.specs.Lookup.{seek}
-use Rattle.tables.specs.Orders.{number-order}
+use Rattle.lookup.specs.Lookup.{seek}
+use Rattle.lookup.specs.Orders.{number-order}
 use Rattle.tables.specs.Rows.{no-security, noticed, security-key}
 use Rattle.gate.specs.declared.figures.Figures.{Figures}
 use Rattle.gate.specs.Balances.{settled}

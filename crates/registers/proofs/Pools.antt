@@ -17,12 +17,12 @@ use Rattle.std.proofs.shelf.Ways.{tells}
 use Rattle.std.proofs.shelf.Lists.{getD-set-same, getD-set-other, getD-past}
 use Rattle.rules.specs.declared.refusal.Refusal.{Refusal}
 use Rattle.rules.specs.declared.refusal.Refusal.the-variants.{Account}
-use Rattle.tables.specs.declared.rows.Pair.{Pair}
+use Rattle.lookup.specs.declared.key.Pair.{Pair}
 use Rattle.tables.specs.declared.rows.Holding.{Holding}
 use Rattle.tables.specs.declared.rows.AccountHolding.{AccountHolding}
 use Rattle.tables.specs.declared.rows.Designation.{Designation}
-use Rattle.tables.specs.Orders.{pair-order}
-use Rattle.tables.specs.Lookup.{seek, some-of}
+use Rattle.lookup.specs.Orders.{pair-order}
+use Rattle.lookup.specs.Lookup.{seek, some-of}
 use Rattle.tables.specs.Rows.{pair, holding-bounds, holding-present, holding-key, no-holding, with-sellable, account-holding-bounds, account-holding-present, account-holding-key, no-account-holding, with-account-sellable, designation-key}
 use Rattle.tables.proofs.Lent.{keys-set}
 use Rattle.registers.specs.declared.pool.Pool.{Pool}

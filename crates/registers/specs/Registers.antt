@@ -14,8 +14,8 @@ use Rattle.rules.specs.declared.refusal.Refusal.the-variants.{Account, Undesign
 use Rattle.tables.specs.declared.rows.Holding.{Holding}
 use Rattle.tables.specs.declared.rows.AccountHolding.{AccountHolding}
 use Rattle.tables.specs.declared.rows.Designation.{Designation}
-use Rattle.tables.specs.Orders.{pair-order}
-use Rattle.tables.specs.Lookup.{seek, some-of}
+use Rattle.lookup.specs.Orders.{pair-order}
+use Rattle.lookup.specs.Lookup.{seek, some-of}
 use Rattle.tables.specs.Rows.{pair, holding-present, holding-key, no-holding, account-holding-present, account-holding-key, no-account-holding, designation-key}
 use Rattle.registers.specs.declared.pool.Pool.{Pool}
 use Rattle.registers.specs.Meaning.{Meaning, pool-of}

@@ -7,8 +7,6 @@ ghost use Rattle.registers.specs.Meaning.{Meaning, Sound, drawn, draw-answer, 
 pub mod accounts;
 pub mod participants;
 pub mod pool;
-#[cfg(test)]
-mod tests;
 
 use rules::refusal::Refusal;
 

@@ -1,5 +1,6 @@
 ghost use mathlib.Core.Path.{_≡_};
 ghost use Rattle.rules.specs.Notices.{notice-band, unfit-notice};
+use super::range::Quantity;
 
 // Where a notice's foreign shares stand to the marks of their holding limit.
 #[derive(Clone, Copy)]
@@ -29,5 +30,5 @@ impl NoticeBand {
 pub fn is_unfit(foreign: u64, total: u64) -> bool
     ensures { λ r. ⌜ r ≡ unfit-notice foreign total ⌝ }
 {
-    total == 0 || total > 1_000_000_000_000 || foreign > total
+    !Quantity::TotalShares.has(total) || foreign > total
 }

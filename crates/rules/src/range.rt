@@ -1,5 +1,5 @@
 ghost use mathlib.Core.Path.{_≡_};
-ghost use Rattle.rules.specs.Ranges.{in-range, range-of};
+ghost use Rattle.rules.specs.Ranges.{from-to, in-range, range-of};
 
 // The numbers from the least to the most, both included, that are multiples of the unit.
 #[derive(Clone, Copy)]
@@ -17,6 +17,17 @@ impl Range {
             return false;
         }
         n % self.unit == 0
+    }
+}
+
+// Each whole number from one to the other.
+fn from_to(least: u64, most: u64) -> Range
+    ensures { λ r. ⌜ r ≡ from-to least most ⌝ }
+{
+    Range {
+        least,
+        most,
+        unit: 1,
     }
 }
 
@@ -45,81 +56,25 @@ impl Quantity {
         ensures { λ r. ⌜ r ≡ range-of self ⌝ }
     {
         match self {
-            Quantity::Market => Range {
-                least: 1,
-                most: 2,
-                unit: 1,
-            },
-            Quantity::Date => Range {
-                least: 1,
-                most: 99_991_231,
-                unit: 1,
-            },
-            Quantity::Quota => Range {
-                least: 1,
-                most: 1_000_000_000_000_000,
-                unit: 1,
-            },
-            Quantity::Code => Range {
-                least: 1,
-                most: 999_999,
-                unit: 1,
-            },
-            Quantity::Mode => Range {
-                least: 1,
-                most: 3,
-                unit: 1,
-            },
-            Quantity::Close => Range {
-                least: 1,
-                most: 900_000,
-                unit: 1,
-            },
+            Quantity::Market => from_to(1, 2),
+            Quantity::Date => from_to(1, 99_991_231),
+            Quantity::Quota => from_to(1, 1_000_000_000_000_000),
+            Quantity::Code => from_to(1, 999_999),
+            Quantity::Mode => from_to(1, 3),
+            Quantity::Close => from_to(1, 900_000),
             Quantity::Band => Range {
                 least: 5,
                 most: 10,
                 unit: 5,
             },
-            Quantity::Participant => Range {
-                least: 1,
-                most: 99_999,
-                unit: 1,
-            },
-            Quantity::Account => Range {
-                least: 80_000_000,
-                most: 80_099_999,
-                unit: 1,
-            },
-            Quantity::Holding => Range {
-                least: 1,
-                most: 9_999_999_999,
-                unit: 1,
-            },
-            Quantity::Lines => Range {
-                least: 0,
-                most: 16_384,
-                unit: 1,
-            },
-            Quantity::Link => Range {
-                least: 0,
-                most: 1,
-                unit: 1,
-            },
-            Quantity::Price => Range {
-                least: 1,
-                most: 999_999,
-                unit: 1,
-            },
-            Quantity::TotalShares => Range {
-                least: 1,
-                most: 1_000_000_000_000,
-                unit: 1,
-            },
-            Quantity::AnyNumber => Range {
-                least: 0,
-                most: 9_999_999_999_999_999,
-                unit: 1,
-            },
+            Quantity::Participant => from_to(1, 99_999),
+            Quantity::Account => from_to(80_000_000, 80_099_999),
+            Quantity::Holding => from_to(1, 9_999_999_999),
+            Quantity::Lines => from_to(0, 16_384),
+            Quantity::Link => from_to(0, 1),
+            Quantity::Price => from_to(1, 999_999),
+            Quantity::TotalShares => from_to(1, 1_000_000_000_000),
+            Quantity::AnyNumber => from_to(0, 9_999_999_999_999_999),
         }
     }
 

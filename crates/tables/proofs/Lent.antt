@@ -11,7 +11,7 @@ use Rattle.std.specs.declared.option.Option.the-variants.{Some, None}
 use Rattle.std.specs.declared.cmp.Ordering.{Ordering}
 use Rattle.std.proofs.shelf.Tests.{and-parts, and-from, and-left, and-right, le-leb, lt-leb}
 use Rattle.std.proofs.shelf.Lists.{length-set, length-take-le, getD-take, getD-past, take-more-set}
-use Rattle.tables.specs.Lookup.{rise, rise-from}
+use Rattle.lookup.specs.Lookup.{rise, rise-from}
 
 pub keys-set : {X K : Type 0} (name : X → Option K) (rows : List X) (k : ℕ) (x d : X) → name x ≡ name (getD rows k d) → map name (set rows k x) ≡ map name rows
 keys-set name [] k x d e = refl

@@ -1,4 +1,1 @@
-pub mod Seeks
-pub mod Rise
-pub mod Holders
 pub mod Lent

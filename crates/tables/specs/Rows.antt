@@ -11,7 +11,7 @@ use Rattle.rules.specs.declared.range.Quantity.the-variants as quantity
 use Rattle.rules.specs.declared.notice.NoticeBand.{NoticeBand}
 use Rattle.rules.specs.Buyings.{after-notice}
 use Rattle.rules.specs.Ranges.{in-range, range-of}
-use Rattle.tables.specs.declared.rows.Pair.{Pair}
+use Rattle.lookup.specs.declared.key.Pair.{Pair}
 use Rattle.tables.specs.declared.rows.Security.{Security}
 use Rattle.tables.specs.declared.rows.Holding.{Holding}
 use Rattle.tables.specs.declared.rows.AccountHolding.{AccountHolding}

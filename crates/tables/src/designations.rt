@@ -2,8 +2,8 @@ ghost use mathlib.Core.Path.{_≡_};
 ghost use Prim.Native.Nat.{_≤_};
 ghost use lib.ListN.{length, take};
 ghost use denote.Ref.{now};
-ghost use Rattle.tables.specs.Orders.{pair-order};
-ghost use Rattle.tables.specs.Lookup.{rise};
+ghost use Rattle.lookup.specs.Orders.{pair-order};
+ghost use Rattle.lookup.specs.Lookup.{rise};
 ghost use Rattle.tables.specs.Rows.{designation-key};
 use super::rows::Designation;
 

@@ -1,9 +1,7 @@
-// Rows of the lent tables, the lookup, and the tables' owners.
+// Rows of the lent tables, and the types that own them.
 pub mod account_holdings;
 pub mod designations;
 pub mod holdings;
-pub mod key;
-pub mod lookup;
 pub mod rows;
 pub mod security_list;
 pub mod table;

@@ -2,10 +2,11 @@ ghost use mathlib.Core.Path.{_≡_};
 ghost use mathlib.Core.Bool.{_&&_};
 ghost use lib.Dec.{leb};
 ghost use Rattle.rules.specs.Ranges.{in-range, range-of};
-ghost use Rattle.tables.specs.Rows.{pair, security-present, security-key, holding-present, holding-key, account-holding-present, account-holding-key, designation-present, designation-key};
-use super::key::NumberKey;
-use super::key::PairKey;
-use super::key::Row;
+ghost use Rattle.tables.specs.Rows.{security-present, security-key, holding-present, holding-key, account-holding-present, account-holding-key, designation-present, designation-key};
+use lookup::key::NumberKey;
+use lookup::key::Pair;
+use lookup::key::PairKey;
+use lookup::key::Row;
 use rules::buying::Buying;
 use rules::buying::BuyingDebug;
 use rules::buying::BuyingPartialEq;
@@ -13,21 +14,6 @@ use rules::price::PriceBand;
 use rules::price::PriceBandDebug;
 use rules::price::PriceBandPartialEq;
 use rules::range::Quantity;
-
-// A key of two numbers.
-#[derive(Clone, Copy, PartialEq, Eq, Debug)]
-pub struct Pair {
-    pub first: u64,
-    pub second: u64,
-}
-
-impl Pair {
-    pub(crate) fn of(first: u64, second: u64) -> Pair
-        ensures { λ r. ⌜ r ≡ pair first second ⌝ }
-    {
-        Pair { first, second }
-    }
-}
 
 // A security that is traded: whether it may be bought, and what its prices are held to.
 #[derive(Clone, Copy, PartialEq, Eq, Debug)]
@@ -128,7 +114,10 @@ pub impl Row for Holding as HoldingRow {
 
     fn key(&self) -> Option<Pair> {
         if self.is_present() {
-            Some(Pair::of(self.participant, self.code))
+            Some(Pair {
+                first: self.participant,
+                second: self.code,
+            })
         } else {
             None
         }
@@ -142,7 +131,10 @@ pub impl Row for AccountHolding as AccountHoldingRow {
 
     fn key(&self) -> Option<Pair> {
         if self.is_present() {
-            Some(Pair::of(self.account, self.code))
+            Some(Pair {
+                first: self.account,
+                second: self.code,
+            })
         } else {
             None
         }
@@ -156,7 +148,10 @@ pub impl Row for Designation as DesignationRow {
 
     fn key(&self) -> Option<Pair> {
         if self.is_present() {
-            Some(Pair::of(self.account, self.participant))
+            Some(Pair {
+                first: self.account,
+                second: self.participant,
+            })
         } else {
             None
         }

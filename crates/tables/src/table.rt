@@ -3,6 +3,7 @@ ghost use mathlib.Core.List.{List, [], _∷_, _++_};
 ghost use Prim.Native.Nat.{ℕ, _+_, _≤_};
 ghost use lib.ListN.{length, set, take};
 ghost use denote.Ref.{now};
+ghost use Rattle.std.specs.Finite.{nth};
 ghost use Rattle.rules.specs.Rules.{if-ok};
 ghost use Rattle.tables.specs.Tables.{push-answer};
 use rules::refusal::Refusal;
@@ -33,4 +34,15 @@ pub trait Table {
         ensures counted { λ r. ⌜ count (now (self .exit)) ≡ if-ok r (count (now (self .entry)) + 1) (count (now (self .entry))) ⌝ }
         ensures lines { λ r. ⌜ take (count (now (self .exit))) (rows (now (self .exit))) ≡ if-ok r (take (count (now (self .entry))) (rows (now (self .entry))) ++ row ∷ []) (take (count (now (self .entry))) (rows (now (self .entry)))) ⌝ }
         ensures size { λ _. ⌜ length (rows (now (self .exit))) ≡ length (rows (now (self .entry))) ⌝ };
+}
+
+// The row at a place, if there is one.
+pub(crate) fn row_at<R: Copy>(rows: &[R], place: usize) -> Option<R>
+    ensures { λ r. ⌜ r ≡ nth (now (rows .entry)) place ⌝ }
+{
+    if place < rows.len() {
+        Some(rows[place])
+    } else {
+        None
+    }
 }

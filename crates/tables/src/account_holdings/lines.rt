@@ -6,21 +6,21 @@ ghost use lib.Dec.{leb};
 ghost use lib.ListN.{length, getD, set, take};
 ghost use denote.Ref.{now};
 ghost use Rattle.std.specs.Finite.{nth};
-ghost use Rattle.tables.specs.Orders.{pair-order};
-ghost use Rattle.tables.specs.Lookup.{seek, Found, rise, some-of};
+ghost use Rattle.lookup.specs.Orders.{pair-order};
+ghost use Rattle.lookup.specs.Lookup.{seek, Found, rise, some-of};
 ghost use Rattle.tables.specs.Rows.{pair, account-holding-key, account-holding-present, no-account-holding, with-account-sellable};
 ghost use Rattle.tables.specs.Lines.{account-holding-lines};
 use super::AccountHoldings;
-use crate::key::PairKey;
-use crate::lookup::holds;
-use crate::lookup::look;
-use crate::lookup::rises;
-use crate::lookup::rises_with;
-use crate::lookup::row_at;
 use crate::rows::AccountHolding;
 use crate::rows::AccountHoldingRow;
-use crate::rows::Pair;
 use crate::table::Table;
+use crate::table::row_at;
+use lookup::key::Pair;
+use lookup::key::PairKey;
+use lookup::search::holds;
+use lookup::search::look;
+use lookup::search::rises;
+use lookup::search::rises_with;
 use rules::refusal::Refusal;
 
 impl<'a> AccountHoldings<'a> {
@@ -47,7 +47,10 @@ impl AccountHoldings<'_> {
     {
         look(
             &self.rows[..self.count],
-            &Pair::of(account, code),
+            &Pair {
+                first: account,
+                second: code,
+            },
             self.rising,
         )
     }

@@ -3,20 +3,20 @@ ghost use mathlib.Core.List.{map, _++_, _∷_, []};
 ghost use Prim.Native.Nat.{min};
 ghost use lib.ListN.{length, take};
 ghost use denote.Ref.{now};
-ghost use Rattle.tables.specs.Orders.{pair-order};
-ghost use Rattle.tables.specs.Lookup.{seek, Found, rise, some-of};
+ghost use Rattle.lookup.specs.Orders.{pair-order};
+ghost use Rattle.lookup.specs.Lookup.{seek, Found, rise, some-of};
 ghost use Rattle.tables.specs.Rows.{pair, designation-key};
 ghost use Rattle.tables.specs.Lines.{designation-lines};
 use super::Designations;
-use crate::key::PairKey;
-use crate::lookup::holds;
-use crate::lookup::look;
-use crate::lookup::rises;
-use crate::lookup::rises_with;
 use crate::rows::Designation;
 use crate::rows::DesignationRow;
-use crate::rows::Pair;
 use crate::table::Table;
+use lookup::key::Pair;
+use lookup::key::PairKey;
+use lookup::search::holds;
+use lookup::search::look;
+use lookup::search::rises;
+use lookup::search::rises_with;
 use rules::refusal::Refusal;
 
 impl<'a> Designations<'a> {
@@ -43,7 +43,10 @@ impl Designations<'_> {
     {
         look(
             &self.rows[..self.count],
-            &Pair::of(account, participant),
+            &Pair {
+                first: account,
+                second: participant,
+            },
             self.rising,
         )
     }

@@ -6,20 +6,20 @@ ghost use lib.Dec.{leb};
 ghost use lib.ListN.{length, getD, set, take};
 ghost use denote.Ref.{now};
 ghost use Rattle.std.specs.Finite.{nth};
-ghost use Rattle.tables.specs.Orders.{pair-order};
-ghost use Rattle.tables.specs.Lookup.{seek, Found, rise};
+ghost use Rattle.lookup.specs.Orders.{pair-order};
+ghost use Rattle.lookup.specs.Lookup.{seek, Found, rise};
 ghost use Rattle.tables.specs.Rows.{pair, holding-key, holding-present, no-holding, with-sellable};
 ghost use Rattle.tables.specs.Lines.{holding-lines};
 use super::Holdings;
-use crate::key::PairKey;
-use crate::lookup::look;
-use crate::lookup::rises;
-use crate::lookup::rises_with;
-use crate::lookup::row_at;
 use crate::rows::Holding;
 use crate::rows::HoldingRow;
-use crate::rows::Pair;
 use crate::table::Table;
+use crate::table::row_at;
+use lookup::key::Pair;
+use lookup::key::PairKey;
+use lookup::search::look;
+use lookup::search::rises;
+use lookup::search::rises_with;
 use rules::refusal::Refusal;
 
 impl<'a> Holdings<'a> {
@@ -46,7 +46,10 @@ impl Holdings<'_> {
     {
         look(
             &self.rows[..self.count],
-            &Pair::of(participant, code),
+            &Pair {
+                first: participant,
+                second: code,
+            },
             self.rising,
         )
     }

@@ -1,6 +1,6 @@
 use mathlib.Core.Path.{refl, sym}
 use lib.ListN.{getD}
-use Rattle.tables.specs.Orders.{pair-order}
+use Rattle.lookup.specs.Orders.{pair-order}
 use Rattle.tables.specs.Rows.{pair, account-holding-key, account-holding-bounds, account-holding-present, no-account-holding, with-account-sellable}
 use Rattle.tables.proofs.Lent.{kept, wrote, resold-key, past-lines, absent-line, above-opening, fit-line}
 use Rattle.tables.proofs.account_holdings.AccountHoldings.set_sellable.Needs as need

@@ -1,7 +1,7 @@
 use mathlib.Core.Path.{refl, sym, ap, _∙_}
 use lib.ListN.{getD, set, take}
 use Rattle.std.proofs.shelf.Tests.{le-ltb, lt-ltb}
-use Rattle.tables.specs.Orders.{number-order}
+use Rattle.lookup.specs.Orders.{number-order}
 use Rattle.tables.specs.Rows.{security-key, no-security, noticed, with-buying}
 use Rattle.tables.proofs.Lent.{kept, wrote}
 use Rattle.tables.proofs.security_list.SecurityList.note.Needs as need

@@ -1,7 +1,7 @@
 use mathlib.Core.Path.{refl}
 use borrow.Author.Needs.{needs}
 use Rattle.std.proofs.shelf.Lists.{take-more-set, length-set}
-use Rattle.tables.specs.Orders.{pair-order}
+use Rattle.lookup.specs.Orders.{pair-order}
 use Rattle.tables.specs.Rows.{account-holding-key}
 use Rattle.tables.proofs.Lent.{pushed}
 use Rattle.tables.proofs.account_holdings.lines.AccountHoldingsTable.push.Needs as need

@@ -1,7 +1,7 @@
 use mathlib.Core.Path.{refl}
 use borrow.Author.Needs.{needs}
 use Rattle.std.proofs.shelf.Lists.{take-more-set, length-set}
-use Rattle.tables.specs.Orders.{number-order}
+use Rattle.lookup.specs.Orders.{number-order}
 use Rattle.tables.specs.Rows.{security-key}
 use Rattle.tables.proofs.Lent.{pushed}
 use Rattle.tables.proofs.security_list.lines.SecurityListTable.push.Needs as need
