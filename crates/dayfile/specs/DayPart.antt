@@ -23,22 +23,27 @@ use Rattle.dayfile.specs.Groups.{Lines, group}
 use Rattle.dayfile.specs.Kinds.{security-kind, holding-kind, account-holding-kind, designation-kind}
 use Rattle.dayfile.specs.Rows.{line-of}
 
--- Where each group begins, after those before it, and where the E line and the events do.
+-- The S lines begin after the D line.
 abbrev pub securities-at : ℕ
 securities-at = width-of letter.Day
 
+-- The P lines begin after the S lines.
 abbrev pub holdings-at : Counts → ℕ
 holdings-at c = securities-at + width-of letter.Security * c .securities
 
+-- The A lines begin after the P lines.
 abbrev pub account-holdings-at : Counts → ℕ
 account-holdings-at c = holdings-at c + width-of letter.Holding * c .holdings
 
+-- The G lines begin after the A lines.
 abbrev pub designations-at : Counts → ℕ
 designations-at c = account-holdings-at c + width-of letter.AccountHolding * c .«account_holdings»
 
+-- The E line begins after the G lines.
 abbrev pub end-at : Counts → ℕ
 end-at c = designations-at c + width-of letter.Designation * c .designations
 
+-- The events begin after the E line.
 abbrev pub events-at : Counts → ℕ
 events-at c = end-at c + width-of letter.End
 

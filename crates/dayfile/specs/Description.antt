@@ -35,22 +35,27 @@ pub record Description : Type 0 where
   pub account-holdings : List AccountHolding
   pub designations : List Designation
 
--- The numbers that the lines say.
+-- The numbers of a security's line.
 abbrev pub security-numbers : Security → List ℕ
 security-numbers s = s .code ∷ (buying-rules (s .buying) .number ∷ (s .close ∷ (band-percent (s .band) ∷ [])))
 
+-- The numbers of a holding's line.
 abbrev pub holding-numbers : Holding → List ℕ
 holding-numbers h = h .participant ∷ (h .code ∷ (h .opening ∷ []))
 
+-- The numbers of an account holding's line.
 abbrev pub account-holding-numbers : AccountHolding → List ℕ
 account-holding-numbers h = h .account ∷ (h .code ∷ (h .opening ∷ []))
 
+-- The numbers of a designation's line.
 abbrev pub designation-numbers : Designation → List ℕ
 designation-numbers d = d .account ∷ (d .participant ∷ [])
 
+-- The numbers of the D line.
 abbrev pub opening-numbers : Description → List ℕ
 opening-numbers d = d .market ∷ (d .date ∷ (d .quota ∷ []))
 
+-- The numbers of the E line.
 abbrev pub end-numbers : Counts → List ℕ
 end-numbers c = c .securities ∷ (c .holdings ∷ (c .«account_holdings» ∷ (c .designations ∷ [])))
 

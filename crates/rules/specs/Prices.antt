@@ -19,9 +19,10 @@ band-of-percent = numbered band-percent (Five ∷ (Ten ∷ []))
 abbrev pub hundredths : ℕ → ℕ → ℕ
 hundredths close percent = (close * percent + 50) / 100
 
--- The ends of a day's prices: the previous close less and plus the band.
+-- The lowest price of a day: the previous close less the band.
 abbrev pub lowest-price : ℕ → PriceBand → ℕ
 lowest-price close band = hundredths close (100 - band-percent band)
 
+-- The highest price of a day: the previous close plus the band.
 abbrev pub highest-price : ℕ → PriceBand → ℕ
 highest-price close band = hundredths close (100 + band-percent band)

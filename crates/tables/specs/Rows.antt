@@ -61,16 +61,19 @@ designation-present d = in-range (range-of quantity.Account) (d .account) && in-
 abbrev pub designation-key : Designation → Option Pair
 designation-key d = cond (designation-present d) (Some (pair (d .account) (d .participant))) None
 
--- An empty row of each table, which is absent.
+-- An empty row of the security list, which is absent.
 abbrev pub no-security : Security
 no-security = record { code = 0; buying = Open; close = 0; band = Five }
 
+-- An empty row of the holdings, which is absent.
 abbrev pub no-holding : Holding
 no-holding = record { participant = 0; code = 0; opening = 0; sellable = 0 }
 
+-- An empty row of the account holdings, which is absent.
 abbrev pub no-account-holding : AccountHolding
 no-account-holding = record { account = 0; code = 0; opening = 0; sellable = 0 }
 
+-- An empty row of the designations, which is absent.
 abbrev pub no-designation : Designation
 no-designation = record { account = 0; participant = 0 }
 
