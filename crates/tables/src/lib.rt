@@ -1,4 +1,7 @@
-// The lent tables of holdings and designations, each with the type that owns it.
+// Rows of the lent tables, and the types that own them.
 pub mod account_holdings;
 pub mod designations;
 pub mod holdings;
+pub mod rows;
+pub mod security_list;
+pub mod table;

@@ -1,12 +1,12 @@
 use registers::Register;
 use registers::accounts::AccountRegister;
 use registers::participants::ParticipantRegister;
-use rows::row::{AccountHolding, Designation, Holding};
 use rules::refusal::Refusal;
 use std::test::Fail;
 use tables::account_holdings::AccountHoldings;
 use tables::designations::Designations;
 use tables::holdings::Holdings;
+use tables::rows::{AccountHolding, Designation, Holding};
 
 fn holding(participant: u64, sellable: u64) -> Holding {
     Holding {

@@ -2,14 +2,14 @@ ghost use Rattle.std.specs.Prelude.{◌≡◌, min, ◌&&◌, [], ◌∷◌, ◌
 ghost use Rattle.std.specs.List.{slice_get};
 ghost use Rattle.lookup.specs.Orders.{pair_order};
 ghost use Rattle.lookup.specs.Lookup.{seek, Found, rise};
-ghost use Rattle.rows.specs.Rows.{pair, holding_key, holding_present, no_holding, with_sellable};
+ghost use Rattle.tables.specs.Rows.{pair, holding_key, holding_present, no_holding, with_sellable};
 ghost use Rattle.tables.specs.Lines.{holding_lines};
 
 use super::Holdings;
+use crate::rows::Holding;
+use crate::table::{Table, row_at};
 use lookup::key::Pair;
 use lookup::search::{look, rises, rises_with};
-use rows::row::Holding;
-use rows::table::{Table, row_at};
 use rules::refusal::Refusal;
 
 impl<'a> Holdings<'a> {

@@ -9,6 +9,3 @@ returns-in-err-account-holdings c = let p = err_from_is_err_and c.from-residual-
 
 pub returns-in-err-designations : goal.returns-in-err-designations
 returns-in-err-designations c = let p = err_from_is_err_and c.from-residual-in-err-designations.result c.from-residual-in-err-designations.ensures.1 in rw p.1 tt
-
-pub returns-in-err-book : goal.returns-in-err-book
-returns-in-err-book c = let p = err_from_is_err_and c.from-residual-in-err-book.result c.from-residual-in-err-book.ensures.1 in rw p.1 tt

@@ -1,5 +1,0 @@
-pub mod Sums
-pub mod Registers
-pub mod Conserve
-pub mod Clearing
-pub mod Worked

@@ -1,4 +1,0 @@
-pub mod Tally
-pub mod History
-pub mod Shares
-pub mod Examples

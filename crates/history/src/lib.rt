@@ -1,6 +1,0 @@
-// The law over the histories of a trading day, the calls that it stands on, and worked examples of the rules.
-pub mod closing;
-pub mod examples;
-pub mod law;
-pub mod reading;
-pub mod shares;

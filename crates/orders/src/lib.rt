@@ -1,6 +1,0 @@
-// Orders: their records, when a record is sound, and what each call makes of one.
-pub mod ending;
-pub mod filling;
-pub mod moving;
-pub mod order;
-pub mod soundness;

@@ -1,2 +1,0 @@
-// The security list of the day.
-pub mod list;

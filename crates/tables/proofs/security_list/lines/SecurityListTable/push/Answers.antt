@@ -1,0 +1,18 @@
+use Rattle.std.proofs.Common.{refl, rules}
+use Rattle.std.proofs.lemmas.List.{take_more_set, length-set}
+use Rattle.lookup.specs.Orders.{number_order}
+use Rattle.tables.specs.Rows.{security_key}
+use Rattle.tables.proofs.Lent.{pushed}
+use Rattle.tables.proofs.security_list.lines.SecurityListTable.push.Goals as goal
+
+pub invariant-of-self : goal.invariant-of-self
+invariant-of-self c = pushed c.args.self.now.rows.now c.args.self.now.count c.args.self.now.fits number_order security_key c.args.row _ c.if-end-self.false c.rises-with-rising.ensures
+
+pub returns : goal.returns
+returns c = record {
+  answer = search rules;
+  wrote = refl;
+  counted = refl;
+  lines = take_more_set c.args.self.now.rows.now c.args.self.now.count c.args.row c.if-end-self.false;
+  size = length-set c.args.self.now.rows.now c.args.self.now.count c.args.row;
+}
