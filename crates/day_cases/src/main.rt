@@ -11,6 +11,8 @@
 //
 // The answer to a case is its title and the lines that the desk answers its input with, closed up to one space between
 // the fields.
+#![tactic(auto)]
+
 ghost use Rattle.std.specs.Prelude.{OnOk};
 ghost use Rattle.day_cases.specs.Written.{Grown};
 

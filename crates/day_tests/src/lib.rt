@@ -1,4 +1,6 @@
 // Tests of whole answers, of loading, of the registers over what was loaded, and of the day's calls.
+#![tactic(auto)]
+
 #[cfg(test)]
 mod answering;
 #[cfg(test)]

@@ -1,4 +1,6 @@
 // The day part of the input: its groups of lines, judged whole and then loaded into the lent tables.
+#![tactic(auto)]
+
 mod group;
 mod judging;
 mod kinds;

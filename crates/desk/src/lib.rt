@@ -1,4 +1,6 @@
 // The event part of the input: each event's work and its printed line, and the whole answer to an input.
+#![tactic(auto)]
+
 pub mod event;
 pub mod output;
 mod printing;

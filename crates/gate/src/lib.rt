@@ -1,4 +1,6 @@
 // One trading day of one market: loading, trading, closed.
+#![tactic(auto)]
+
 pub mod closing;
 pub mod day;
 pub mod figures;

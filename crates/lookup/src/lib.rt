@@ -1,3 +1,5 @@
 // Keys with a total order, and the one lookup for all of them.
+#![tactic(auto)]
+
 pub mod key;
 pub mod search;

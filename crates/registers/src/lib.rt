@@ -1,3 +1,5 @@
+#![tactic(auto)]
+
 ghost use Rattle.std.specs.Prelude.{◌≡◌};
 ghost use Rattle.rules.specs.Rules.{if_ok};
 ghost use Rattle.registers.specs.Meaning.{Meaning, Sound, drawn, draw_answer, restored, restore_answer, opening_of, sellable_of};

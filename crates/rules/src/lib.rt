@@ -1,4 +1,6 @@
 // The trade's words, each with its number and the values that the rules attach to it.
+#![tactic(auto)]
+
 pub mod buying;
 pub mod letter;
 pub mod market;

@@ -1,4 +1,6 @@
 // Rows of the lent tables, and the types that own them.
+#![tactic(auto)]
+
 pub mod account_holdings;
 pub mod designations;
 pub mod holdings;

@@ -1,4 +1,6 @@
 // Examples of fields and registers, as tests.
+#![tactic(auto)]
+
 #[cfg(test)]
 mod field_tests;
 #[cfg(test)]
