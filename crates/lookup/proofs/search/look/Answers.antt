@@ -5,7 +5,7 @@ use Rattle.lookup.proofs.search.look.Goals as goal
 
 pub returns-then-rising : goal.returns-then-rising
 returns-then-rising g c = record {
-  is = λ up. c.find-rising.ensures.is (up c.if-rising.true);
-  means = λ up. subst (Found g.Key-as-Key.order (map g.R.Row.named c.args.rows.now) c.args.key.now) (sym (c.find-rising.ensures.is (up c.if-rising.true))) (finds g.Key-as-Key.order g.met.R.Key.Key.total c.args.key.now (map g.R.Row.named c.args.rows.now));
-  held = c.find-rising.ensures.held;
+  is = λ up. c.find_rising.ensures.is (up c.if-rising.true);
+  means = λ up. subst (Found g.R.Key.Key.order (map g.R.Row.named c.args.rows.now) c.args.key.now) (sym (c.find_rising.ensures.is (up c.if-rising.true))) (finds g.R.Key.Key.order g.met.R.Key.Key.total c.args.key.now (map g.R.Row.named c.args.rows.now));
+  held = c.find_rising.ensures.held;
 }
