@@ -8,8 +8,10 @@ use Rattle.tables.proofs.security_list.SecurityList.note.Goals as goal
 pub returns-then-place-self : goal.returns-then-place-self
 returns-then-place-self c = record { done = sym (le-ltb c.args.place c.args.self.now.count c.if-place-self.true); wrote = refl; counted = refl; lines = refl }
 
-pub invariant-of-self : goal.invariant-of-self
-invariant-of-self c = kept c.args.self.now.rows.now c.args.self.now.count c.args.self.now.fits number_order security_key c.args.self.now.rising c.args.self.now.known c.args.place (with_buying (get_or c.args.self.now.rows.now c.args.place no_security) c.noticed.result) no_security c.if-place-self.false refl
+pub invariant_of-self : goal.invariant_of-self
+invariant_of-self c =
+    let k = kept c.args.self.now.rows.now c.args.self.now.count c.args.self.now.fits number_order security_key c.args.self.now.rising c.args.self.now.known c.args.place (with_buying (get_or c.args.self.now.rows.now c.args.place no_security) c.noticed.result) no_security c.if-place-self.false refl in
+    record { fits = k.0; known = k.1.0 }
 
 pub returns : goal.returns
 returns c =

@@ -5,8 +5,10 @@ use Rattle.tables.specs.Rows.{account_holding_key}
 use Rattle.tables.proofs.Lent.{pushed}
 use Rattle.tables.proofs.account_holdings.lines.AccountHoldingsTable.push.Goals as goal
 
-pub invariant-of-self : goal.invariant-of-self
-invariant-of-self c = pushed c.args.self.now.rows.now c.args.self.now.count c.args.self.now.fits pair_order account_holding_key c.args.row _ c.if-end-self.false c.rises-with-rising.ensures
+pub invariant_of-self : goal.invariant_of-self
+invariant_of-self c =
+    let k = pushed c.args.self.now.rows.now c.args.self.now.count c.args.self.now.fits pair_order account_holding_key c.args.row _ c.if-end-self.false c.rises_with-rising.ensures in
+    record { fits = k.0; known = k.1.0 }
 
 pub returns : goal.returns
 returns c = record {
