@@ -16,7 +16,7 @@ returns c =
     let wrote = c.note.ensures.wrote ∙ ap (λ b. cond b (set rows place (noticed (get_or rows place no_security) c.of.result)) rows) done in
     record {
       did = did_notice c.args.self.now.figures c.settle-self.result lines (take c.note.new.self.count c.note.new.self.rows.now) c.args.code c.args.foreign c.args.total place
-          c.in-Some.ensures.is c.if-is-unfit.ensures c.settle-self.ensures.value
+          c.in-Some.ensures.is c.if-is_unfit.ensures c.settle-self.ensures.value
           (c.note.ensures.lines ∙ ap (λ b. cond b (set lines place (noticed (get_or lines place no_security) c.of.result)) lines) done ∙ ap (λ b. set lines place (noticed (get_or lines place no_security) b)) c.of.ensures);
       counted = c.note.ensures.counted;
       rest = ap (λ n. drop n c.note.new.self.rows.now) c.note.ensures.counted ∙ ap (drop count) wrote ∙ drop-set-lt count rows place (noticed (get_or rows place no_security) c.of.result) lt;

@@ -9,8 +9,8 @@ use Rattle.registers.proofs.accounts.AccountRegisterRegister.restore.Goals as go
 pub returns : goal.returns
 returns c =
     let lines = account_holding_lines c.args.self.now.holdings.now in
-    let e = c.in-ok-left.ensures ∙ ap (λ o. again_in o c.args.shares) c.pool.ensures in
+    let e = c.in_ok-left.ensures ∙ ap (λ o. again_in o c.args.shares) c.pool.ensures in
     record {
-      answer = restore_taken (account_pool (get_or lines c.args.pool no_account_holding)) c.args.shares c.in-ok-left.left e;
-      after = restore_means of_account (λ xs. account_finds xs (designation_lines c.args.self.now.designations.now)) (account_steady (designation_lines c.args.self.now.designations.now)) lines c.args.pool c.args.shares c.in-ok-left.left c.set-sellable.result _ e c.set-sellable.ensures.done c.set-sellable.ensures.lines;
+      answer = restore_taken (account_pool (get_or lines c.args.pool no_account_holding)) c.args.shares c.in_ok-left.left e;
+      after = restore_means of_account (λ xs. account_finds xs (designation_lines c.args.self.now.designations.now)) (account_steady (designation_lines c.args.self.now.designations.now)) lines c.args.pool c.args.shares c.in_ok-left.left c.set_sellable.result _ e c.set_sellable.ensures.done c.set_sellable.ensures.lines;
     }

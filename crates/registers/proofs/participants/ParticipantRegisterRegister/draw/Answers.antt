@@ -9,8 +9,8 @@ use Rattle.registers.proofs.participants.ParticipantRegisterRegister.draw.Goals 
 pub returns : goal.returns
 returns c =
     let lines = holding_lines c.args.self.now.holdings.now in
-    let e = c.in-ok-left.ensures ∙ ap (λ o. left_in o c.args.shares) c.pool.ensures in
+    let e = c.in_ok-left.ensures ∙ ap (λ o. left_in o c.args.shares) c.pool.ensures in
     record {
-      answer = draw_taken (holding_pool (get_or lines c.args.pool no_holding)) c.args.shares c.in-ok-left.left e;
-      after = draw_means of_participant participant_finds participant_steady lines c.args.pool c.args.shares c.in-ok-left.left c.set-sellable.result _ e c.set-sellable.ensures.done c.set-sellable.ensures.lines;
+      answer = draw_taken (holding_pool (get_or lines c.args.pool no_holding)) c.args.shares c.in_ok-left.left e;
+      after = draw_means of_participant participant_finds participant_steady lines c.args.pool c.args.shares c.in_ok-left.left c.set_sellable.result _ e c.set_sellable.ensures.done c.set_sellable.ensures.lines;
     }
