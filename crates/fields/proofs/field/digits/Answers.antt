@@ -6,9 +6,9 @@ use Rattle.fields.proofs.field.digits.Goals as goal
 pub carry-requires : goal.carry-requires
 carry-requires c = omega (arith, ten_le c.loop-i.i (omega arith), c.loop-i.invariant.0)
 
-pub returns-in-default : goal.returns-in-default
-returns-in-default c =
-    let e = sym c.loop-i.invariant.1 ∙ stops c.args.bytes.now c.loop-i.n c.loop-i.i (omega arith) c.in-default.ensures in
+pub returns-in_default : goal.returns-in_default
+returns-in_default c =
+    let e = sym c.loop-i.invariant.1 ∙ stops c.args.bytes.now c.loop-i.n c.loop-i.i (omega arith) c.in_default.ensures in
     record { is = sym e; means = ruled c.args.bytes.now c.loop-i.i c.requires e }
 
 pub loop-i-preserved : goal.loop-i-preserved
