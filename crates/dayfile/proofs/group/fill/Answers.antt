@@ -7,7 +7,7 @@ use Rattle.fields.specs.Layout.{width_of}
 use Rattle.dayfile.specs.Groups.{rows_of}
 use Rattle.dayfile.proofs.Groups.{rows_more, put, width_more, long_if_ok, by_ok}
 use Rattle.dayfile.proofs.group.fill.Goals as goal
-use Rattle.dayfile.proofs.group.fill.Goals.{in-Ok, in-default}
+use Rattle.dayfile.proofs.group.fill.Goals.{in-Ok, in_default}
 
 pub loop-i-preserved : goal.loop-i-preserved
 loop-i-preserved g c =
@@ -17,10 +17,10 @@ loop-i-preserved g c =
     let old = g.T.Table.rows c.clear.new.self in
     let table = g.T.Table.rows c.loop-i.table in
     let wm = width_more kind i in
-    let sp : c.line-width-span.result ≡ width_of kind.letter = c.line-width-span.ensures.is ∙ ap width_of c.letter.ensures in
+    let sp : c.line_width-span.result ≡ width_of kind.letter = c.line_width-span.ensures.is ∙ ap width_of c.letter.ensures in
     let good = c.requires.good i c.loop-i-test.true in
     let wide = long_if_ok kind g.met.R.Entry.long (drop (width_of kind.letter * i) line) good in
-    let bound : c.loop-i.from + c.line-width-span.result ≤ length c.args.input.now = omega (arith, simp length-drop at wide, sp, c.loop-i.invariant.0) in
+    let bound : c.loop-i.from + c.line_width-span.result ≤ length c.args.input.now = omega (arith, simp length-drop at wide, sp, c.loop-i.invariant.0) in
     let room : i < length old = omega (arith, c.requires.few, c.loop-i-test.true, ap length c.clear.ensures.kept) in
     let size : length table ≡ length old = ap length c.loop-i.invariant.3 ∙ length-append (rows_of kind i line) (drop i old) ∙ omega (arith, length-drop i old, c.loop-i.invariant.2, room) in
     let stands : c.read.result ≡ kind.reads (drop (width_of kind.letter * i) line) =
@@ -40,5 +40,5 @@ loop-i-preserved g c =
             ap g.T.Table.rows w.table-is ∙ wrote ∙ put (rows_of kind i line) old table i w.in-Ok.row c.loop-i.invariant.2 room c.loop-i.invariant.3 ∙ ap (λ t. t ++ drop (i + 1) old) (sym more),
             ap g.T.Table.count w.table-is ∙ counted ∙ ap (λ (k : ℕ). k + 1) c.loop-i.invariant.4,
           )
-      | in-default w ↦ absurd (by_ok kind (kind.reads (drop (width_of kind.letter * i) line)) good (λ x e. w.in-default.not-Ok x (stands ∙ e)))
+      | in_default w ↦ absurd (by_ok kind (kind.reads (drop (width_of kind.letter * i) line)) good (λ x e. w.in_default.not-Ok x (stands ∙ e)))
     ]

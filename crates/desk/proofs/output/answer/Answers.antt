@@ -19,7 +19,7 @@ returns-in-Ok c =
 
 pub returns-in-Err : goal.returns-in-Err
 returns-in-Err c =
-    made_so c.put-fault.result
+    made_so c.put_fault.result
     (λ wrote. (
       shown_fault c.in-Err.back.1,
       wrote,
@@ -28,4 +28,4 @@ returns-in-Err c =
           (tables_of c.load.new.list c.load.new.holdings c.load.new.account_holdings c.load.new.designations)
           c.in-Err.back.0 c.in-Err.back.1 c.in-Err.ensures,
     ))
-    c.put-fault.ensures
+    c.put_fault.ensures
