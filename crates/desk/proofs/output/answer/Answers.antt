@@ -6,7 +6,7 @@ use Rattle.desk.proofs.output.answer.Goals as goal
 
 pub returns-in-Ok : goal.returns-in-Ok
 returns-in-Ok c =
-    made_so c.answer-loaded.result
+    made_so c.answer_loaded.result
     (λ done. (
       done.0,
       done.1,
@@ -15,7 +15,7 @@ returns-in-Ok c =
           (tables_of c.load.new.list c.load.new.holdings c.load.new.account_holdings c.load.new.designations)
           c.in-Ok.loaded done.0 c.in-Ok.ensures done.2,
     ))
-    c.answer-loaded.ensures
+    c.answer_loaded.ensures
 
 pub returns-in-Err : goal.returns-in-Err
 returns-in-Err c =

@@ -22,7 +22,7 @@ events-preserved c =
       omega (arith, w, c.events.invariant.1),
       (
         text ++ event_answer s c.in-Ok.event,
-        c.in_ok-respond.ensures.wrote ∙ ap (λ (t : List ℕ). t ++ event_answer s c.in-Ok.event) c.events.invariant.2.1 ∙ append_assoc (vec_items c.args.out.now) text (event_answer s c.in-Ok.event),
+        c.in_ok-respond-in-Ok.ensures.wrote ∙ ap (λ (t : List ℕ). t ++ event_answer s c.in-Ok.event) c.events.invariant.2.1 ∙ append_assoc (vec_items c.args.out.now) text (event_answer s c.in-Ok.event),
         one_more s₀ c.args.line (drop c.args.at input) input text s c.events.number from c.events.invariant.2.2 (take (length input - from) (drop from input)) tr c.in-Ok.event (session c.respond.new.day.figures (take c.respond.new.list.count c.respond.new.list.rows.now) c.respond.new.link) c.line_width-from.result c.in-Ok.ensures.is c.respond.ensures.after w,
       ),
     )
