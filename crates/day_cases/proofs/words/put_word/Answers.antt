@@ -6,7 +6,7 @@ pub loop-column-preserved : goal.loop-column-preserved
 loop-column-preserved c =
     let out = vec_items c.loop-column.out in
     let start = vec_items c.args.out.now in
-    let pushed : vec_items c.push.new.self ≡ out ++ (32 ∷ []) = c.push.ensures.items ∙ ap (λ r. cond (is_ok r) (out ++ (32 ∷ [])) out) c.in-ok-push.was in
+    let pushed : vec_items c.push.new.self ≡ out ++ (32 ∷ []) = c.push.ensures.items ∙ ap (λ r. cond (is_ok r) (out ++ (32 ∷ [])) out) c.in_ok-push.was in
     pushed
     ∙ ap (λ (t : List ℕ). t ++ (32 ∷ [])) c.loop-column.invariant
     ∙ append_assoc start (replicate c.loop-column.column 32) (32 ∷ [])
@@ -18,7 +18,7 @@ returns c =
     let start = vec_items c.args.out.now in
     let word = c.args.word.now in
     let wide : c.loop-column.column ≡ 16 - length c.args.word.now = omega arith in
-    c.extend-from-slice.ensures.items
-    ∙ ap (λ r. cond (is_ok r) (out ++ word) out) c.in-ok-extend-from-slice.was
+    c.extend_from_slice.ensures.items
+    ∙ ap (λ r. cond (is_ok r) (out ++ word) out) c.in_ok-extend_from_slice.was
     ∙ ap (λ (t : List ℕ). t ++ word) (c.loop-column.invariant ∙ ap (λ (n : ℕ). start ++ replicate n 32) wide)
     ∙ append_assoc start (replicate (16 - length word) 32) word
