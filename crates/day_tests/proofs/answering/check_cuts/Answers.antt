@@ -3,18 +3,18 @@ use Rattle.std.proofs.lemmas.List.{take_more}
 use Rattle.day_tests.proofs.answering.check_cuts.Goals as goal
 
 pub loop-b-preserved : goal.loop-b-preserved
-loop-b-preserved c =
+loop-b-preserved g c =
     let start = vec_items c.args.input.now in
     let line = c.args.line.now in
     let i = c.loop-b.b-index in
     let b : List ℕ = get_or line i 0 ∷ [] in
-    c.in-ok-push.ensures.items
+    c.in_ok-push.ensures.items
     ∙ ap (λ (t : List ℕ). t ++ b) c.loop-b.invariant
     ∙ append_assoc start (take i line) b
     ∙ ap (λ (t : List ℕ). start ++ t) (sym (take_more line i 0 c.loop-b-test.true))
 
 pub returns : goal.returns
-returns c =
+returns g c =
     let start = vec_items c.args.input.now in
     let line = c.args.line.now in
     let whole : length line ≤ c.loop-b.b-index = omega arith in
