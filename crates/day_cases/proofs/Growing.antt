@@ -1,5 +1,5 @@
 -- What grows twice has grown.
-use Rattle.std.proofs.Common.{◌≡◌, ℕ, List, [], ◌∷◌, ◌++◌, sym, ap, ◌∙◌, append_assoc, append-nil}
+use Rattle.std.proofs.Common.{◌≡◌, ℕ, List, [], ◌++◌, sym, ap, ◌∙◌, append_assoc, append-nil}
 use Rattle.day_cases.specs.Written.{Grown}
 
 pub unchanged : (a : List ℕ) → Grown a a

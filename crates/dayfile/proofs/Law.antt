@@ -1,5 +1,5 @@
 -- A day part is accepted exactly where the input begins with the written form of a description that is well formed and fits.
-use Rattle.std.proofs.Common.{◌≡◌, ℕ, zero, suc, ◌+◌, ◌*◌, ◌<◌, ◌≤◌, Bool, true, false, cond, ◌&&◌, eqb, ltb, List, [], ◌∷◌, ◌++◌, map, length, get_or, take, drop, Some, None, Ok, Err, Option, Result, Ordering, sym, refl, ap, ◌∙◌, subst, append_assoc, arith}
+use Rattle.std.proofs.Common.{◌≡◌, ℕ, zero, suc, ◌+◌, ◌*◌, ◌≤◌, Bool, true, false, cond, eqb, List, [], ◌∷◌, ◌++◌, map, length, get_or, take, drop, Some, None, Ok, Err, Option, Result, Ordering, sym, refl, ap, ◌∙◌, subst, append_assoc, arith}
 use Rattle.std.specs.List.{flat_map, AllByRecursion as All}
 use Rattle.std.proofs.lemmas.List.{take-append-drop, drop-drop, drop_at}
 use Rattle.std.proofs.lemmas.Bool.{eqb-true, eq-eqb, and_parts}
@@ -8,19 +8,18 @@ use Rattle.rules.specs.declared.letter.Letter.{Letter}
 use Rattle.rules.specs.declared.letter.Letter.TheVariants as letter
 use Rattle.rules.specs.declared.refusal.Refusal.TheVariants as refusal
 use Rattle.rules.specs.Letters.{letter_rules}
-use Rattle.lookup.specs.declared.key.Pair.{Pair}
 use Rattle.tables.specs.declared.rows.Security.{Security}
 use Rattle.tables.specs.declared.rows.Holding.{Holding}
 use Rattle.tables.specs.declared.rows.AccountHolding.{AccountHolding}
 use Rattle.tables.specs.declared.rows.Designation.{Designation}
-use Rattle.lookup.specs.Lookup.{Rising, is_above, rise_from}
+use Rattle.lookup.specs.Lookup.{is_above, rise_from}
 use Rattle.lookup.specs.Orders.{TotalOrder, number_order, pair_order}
 use Rattle.tables.specs.Rows.{pair, security_present, security_key, holding_present, holding_key, account_holding_present, account_holding_key, designation_present, designation_key}
 use Rattle.lookup.proofs.Rise.{rising_means, words_mean}
 use Rattle.lookup.proofs.Holders.{pairs_total}
 use Rattle.fields.specs.declared.fault.FieldFault.{FieldFault}
 use Rattle.fields.specs.declared.fault.LineFault.{LineFault}
-use Rattle.fields.specs.Faults.{and_then, beside_of, line_at}
+use Rattle.fields.specs.Faults.{line_at}
 use Rattle.fields.specs.Layout.{width_of}
 use Rattle.fields.specs.Numbers.{Within, WrittenAs, written_line}
 use Rattle.fields.proofs.Numbers.{by_then}
@@ -28,13 +27,12 @@ use Rattle.fields.proofs.ReadBack.{written_wide}
 use Rattle.dayfile.specs.declared.plan.Opening.{Opening}
 use Rattle.dayfile.specs.declared.plan.Counts.{Counts}
 use Rattle.dayfile.specs.declared.plan.Plan.{Plan}
-use Rattle.dayfile.specs.declared.run.Run.{Run}
 use Rattle.dayfile.specs.Groups.{Kind, group, rows_of, starts, turn}
-use Rattle.dayfile.specs.Kinds.{security_kind, holding_kind, account_holding_kind, designation_kind, most_named}
-use Rattle.dayfile.specs.Rows.{line_of, security_of, holding_of, account_holding_of, designation_of}
+use Rattle.dayfile.specs.Kinds.{security_kind, holding_kind, account_holding_kind, designation_kind}
+use Rattle.dayfile.specs.Rows.{line_of}
 use Rattle.dayfile.specs.DayPart.{securities_at, holdings_at, account_holdings_at, designations_at, end_at, events_at, end_line, opening_of, agreed, ending_of, counts, plan, day_part}
-use Rattle.dayfile.specs.Description.{Description, security_numbers, holding_numbers, account_holding_numbers, designation_numbers, opening_numbers, end_numbers, counts_of, written, named_by, WellFormed, Fits, Describes, described, plan_of}
-use Rattle.dayfile.proofs.Written.{Steps, Grouped, grouped, accepted, rows_written, joined_wide, beside_ok, clash}
+use Rattle.dayfile.specs.Description.{Description, security_numbers, holding_numbers, account_holding_numbers, designation_numbers, opening_numbers, end_numbers, counts_of, written, WellFormed, Fits, Describes, described, plan_of}
+use Rattle.dayfile.proofs.Written.{Grouped, grouped, accepted, rows_written, joined_wide, beside_ok, clash}
 use Rattle.dayfile.proofs.Reading.{within_long, three, four, line_read, line_written, GoodSecurity, GoodHolding, GoodAccountHolding, GoodDesignation, security_lined, holding_lined, account_holding_lined, designation_lined}
 use Rattle.dayfile.proofs.Following.{steps_rise, rise_steps, designations_step, designations_follow}
 

@@ -1,5 +1,5 @@
 -- What a load leaves, in the file's own terms.
-use Rattle.std.proofs.Common.{◌≡◌, ℕ, zero, suc, ◌+◌, ◌*◌, ◌<◌, ◌≤◌, true, List, [], ◌∷◌, ◌++◌, length, take, drop, is_ok, Ok, Err, Result, sym, refl, ap, ◌∙◌, subst, arith, MatchResult}
+use Rattle.std.proofs.Common.{◌≡◌, ℕ, zero, suc, ◌*◌, ◌<◌, true, List, [], ◌∷◌, length, drop, is_ok, Ok, Err, Result, sym, refl, ap, ◌∙◌, subst, arith}
 use Rattle.std.specs.List.{AllByRecursion as All}
 use Rattle.std.proofs.lemmas.List.{length-append, take_at}
 use Rattle.rules.specs.declared.letter.Part.TheVariants as part
@@ -13,11 +13,10 @@ use Rattle.fields.specs.declared.fault.LineFault.{LineFault}
 use Rattle.fields.specs.Faults.{day_at}
 use Rattle.fields.specs.Layout.{width_of}
 use Rattle.gate.specs.declared.day.LoadingDay.{LoadingDay}
-use Rattle.gate.specs.Opened.{OpenedBy}
 use Rattle.dayfile.specs.declared.loaded.Loaded.{Loaded}
 use Rattle.dayfile.specs.declared.plan.Plan.{Plan}
 use Rattle.dayfile.specs.DayPart.{day_part, Planned, securities_at, holdings_at, account_holdings_at, designations_at}
-use Rattle.dayfile.specs.Description.{Describes, Description, described, plan_of}
+use Rattle.dayfile.specs.Description.{Describes, described, plan_of}
 use Rattle.dayfile.specs.Groups.{Kind, Lines, oks, rows_of}
 use Rattle.dayfile.specs.Kinds.{security_kind, holding_kind, account_holding_kind, designation_kind}
 use Rattle.dayfile.specs.Loads.{Begins, Lent, Load, Tables, filled, filled_by, Holds, lines_of, loaded, room_of}

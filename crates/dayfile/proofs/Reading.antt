@@ -1,5 +1,5 @@
 -- What a line of the day part gives is what it is the written form of, once for every kind of line.
-use Rattle.std.proofs.Common.{◌≡◌, ℕ, suc, ◌+◌, ◌*◌, ◌<◌, ◌≤◌, Bool, true, false, cond, ◌&&◌, eqb, ltb, leb, List, [], ◌∷◌, ◌++◌, length, get_or, take, Some, None, Ok, Err, Option, Result, sym, refl, ap, ◌∙◌, subst, arith}
+use Rattle.std.proofs.Common.{◌≡◌, ℕ, suc, Bool, true, false, cond, eqb, List, [], ◌∷◌, ◌++◌, length, get_or, take, Some, None, Ok, Err, Option, Result, sym, refl, ap, ◌∙◌, subst, arith}
 use Rattle.std.proofs.lemmas.Bool.{eqb-true, eq-eqb, and_parts, le-leb}
 use Rattle.std.proofs.lemmas.Bool.Decides.{nat_tests}
 use Rattle.rules.specs.declared.letter.Letter.{Letter}
@@ -23,7 +23,7 @@ use Rattle.tables.specs.Rows.{security_present, holding_present, account_holding
 use Rattle.fields.specs.declared.fault.FieldFault.{FieldFault}
 use Rattle.fields.specs.Faults.{and_then}
 use Rattle.fields.specs.Layout.{opening, closed, letter_in, letters_of, day_letters, width_of}
-use Rattle.fields.specs.Numbers.{numbers_from, written_line, Within, WrittenAs, ReadAs}
+use Rattle.fields.specs.Numbers.{numbers_from, written_line, Within, WrittenAs}
 use Rattle.fields.proofs.Numbers.{by_then}
 use Rattle.fields.proofs.ReadBack.{opened, read_is_written, letter_found, written_wide, written_is_read}
 use Rattle.dayfile.specs.Groups.{starts}

@@ -1,5 +1,5 @@
 -- The day part: one D line, the four groups, one E line.
-use Rattle.std.specs.Prelude.{◌≡◌, ℕ, ◌+◌, ◌*◌, ◌≤◌, true, cond, List, [], ◌∷◌, length, drop, None, Ok, Err, Result, ◌==◌, slice_index}
+use Rattle.std.specs.Prelude.{◌≡◌, ℕ, ◌+◌, ◌*◌, ◌≤◌, true, cond, List, length, drop, None, Ok, Err, Result, ◌==◌, slice_index}
 use Rattle.rules.specs.declared.letter.Letter.TheVariants as letter
 use Rattle.rules.specs.declared.range.Quantity.TheVariants as quantity
 use Rattle.rules.specs.declared.refusal.Refusal.TheVariants as refusal

@@ -1,5 +1,5 @@
 -- The rows that the lines of the day part give.
-use Rattle.std.specs.Prelude.{ℕ, cond, List, [], ◌∷◌, Some, None, Ok, Err, Option, Result, ◌==◌, slice_index}
+use Rattle.std.specs.Prelude.{ℕ, cond, List, Some, None, Ok, Err, Option, Result, ◌==◌, slice_index}
 use Rattle.rules.specs.declared.letter.Letter.{Letter}
 use Rattle.rules.specs.declared.refusal.Refusal.TheVariants as refusal
 use Rattle.rules.specs.Buyings.{buying_numbered}

@@ -6,7 +6,6 @@ use Rattle.fields.specs.declared.fault.DayFault.{DayFault}
 use Rattle.fields.specs.declared.fault.LineFault.{LineFault}
 use Rattle.fields.specs.Faults.{day_at}
 use Rattle.gate.specs.declared.day.LoadingDay.{LoadingDay}
-use Rattle.gate.specs.declared.figures.Figures.{Figures}
 use Rattle.dayfile.specs.declared.loaded.Loaded.{Loaded}
 use Rattle.dayfile.specs.declared.plan.Counts.{Counts}
 use Rattle.dayfile.specs.declared.plan.Plan.{Plan}

@@ -1,5 +1,5 @@
 -- The answer to an event part: one line for each event, up to the end of the input or the first fault.
-use Rattle.std.specs.Prelude.{◌≡◌, ℕ, ◌+◌, ◌<◌, List, [], ◌∷◌, ◌++◌, length, drop, Ok, Err, slice_index}
+use Rattle.std.specs.Prelude.{◌≡◌, ℕ, ◌+◌, ◌<◌, List, [], ◌++◌, length, drop, Ok, Err, slice_index}
 use Rattle.rules.specs.declared.letter.Part.TheVariants as part
 use Rattle.fields.specs.declared.fault.FieldFault.{FieldFault}
 use Rattle.fields.specs.Layout.{width_of}

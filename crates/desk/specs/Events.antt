@@ -1,5 +1,5 @@
 -- Events: how a line says one, and what it does.
-use Rattle.std.specs.Prelude.{ℕ, List, [], ◌∷◌, Some, None, Ok, Err, Option, Result, slice_index}
+use Rattle.std.specs.Prelude.{ℕ, List, [], ◌∷◌, None, Ok, Err, Option, Result, slice_index}
 use Rattle.rules.specs.declared.letter.Letter.{Letter}
 use Rattle.rules.specs.declared.letter.Letter.TheVariants as letter
 use Rattle.rules.specs.declared.refusal.Refusal.{Refusal}

@@ -1,13 +1,12 @@
 -- What a notice leaves.
-use Rattle.std.proofs.Common.{◌≡◌, ℕ, ◌<◌, ◌≤◌, Bool, true, false, cond, List, map, length, get_or, take, drop, set, Some, None, Option, sym, refl, ap, ◌∙◌, arith}
-use Rattle.std.proofs.lemmas.List.{length-map, length-take-le, drop-set-lt}
-use Rattle.rules.specs.declared.notice.NoticeBand.{NoticeBand}
+use Rattle.std.proofs.Common.{◌≡◌, ℕ, ◌<◌, ◌≤◌, false, List, map, length, get_or, take, set, Some, None, refl, arith}
+use Rattle.std.proofs.lemmas.List.{length-map, length-take-le}
 use Rattle.rules.specs.Notices.{notice_band, unfit_notice}
 use Rattle.tables.specs.declared.rows.Security.{Security}
 use Rattle.tables.specs.Rows.{no_security, noticed, security_key}
 use Rattle.gate.specs.declared.figures.Figures.{Figures}
 use Rattle.gate.specs.Balances.{settled}
-use Rattle.gate.specs.Calls.{Desk, desk, Did, listed, notice}
+use Rattle.gate.specs.Calls.{desk, Did, listed, notice}
 
 -- a place among the keys of the lines is one of the lines
 pub in_lines : (rows : List Security) (count place : ℕ) → count ≤ length rows → place < length (map security_key (take count rows)) → place < count

@@ -1,10 +1,10 @@
 -- Whether some row has a number as the first of its key.
-use Rattle.std.proofs.Common.{◌≡◌, ℕ, zero, suc, ◌+◌, ◌<◌, ◌≤◌, Bool, true, false, cond, ◌&&◌, ◌||◌, eqb, ltb, List, [], ◌∷◌, map, length, get_or, drop, Some, None, Option, Ordering, Less, Equal, Greater, sym, refl, ap, ◌∙◌, subst, ⊎_elim, arith}
+use Rattle.std.proofs.Common.{◌≡◌, ℕ, zero, suc, ◌+◌, ◌<◌, ◌≤◌, Bool, true, false, ◌||◌, List, [], ◌∷◌, map, length, get_or, drop, Some, None, Option, Less, sym, refl, ap, ◌∙◌, ⊎_elim, arith}
 use Rattle.std.proofs.lemmas.Bool.{or_left, or_right, cases_eq, cases_lt}
 use Rattle.std.proofs.lemmas.Bool.Decides.{nat_tests}
 use Rattle.std.proofs.lemmas.List.{at_drop_more, at_drop_all}
 use Rattle.lookup.specs.declared.key.Pair.{Pair}
-use Rattle.lookup.specs.Orders.{TotalOrder, number_order, then_by, is_less, pair_order}
+use Rattle.lookup.specs.Orders.{TotalOrder, pair_order}
 use Rattle.lookup.specs.Lookup.{is_before, rise_from, Rising, is_of, some_of}
 use Rattle.lookup.proofs.Rise.{rising_means}
 

@@ -1,12 +1,12 @@
 -- Lines of which all may still be sold make a fresh register.
-use Rattle.std.proofs.Common.{◌≡◌, ℕ, zero, suc, Bool, cond, List, [], ◌∷◌, ◌++◌, get_or, Some, None}
+use Rattle.std.proofs.Common.{◌≡◌, ℕ, zero, suc, Bool, cond, List, [], ◌∷◌, ◌++◌, Some, None}
 use Rattle.std.proofs.lemmas.Bool.{cond_both}
 use Rattle.tables.specs.declared.rows.Holding.{Holding}
 use Rattle.tables.specs.declared.rows.AccountHolding.{AccountHolding}
 use Rattle.tables.specs.declared.rows.Designation.{Designation}
-use Rattle.tables.specs.Rows.{holding_present, no_holding, account_holding_present, no_account_holding}
+use Rattle.tables.specs.Rows.{holding_present, account_holding_present}
 use Rattle.registers.specs.Meaning.{pool_of, FreshPool, Fresh}
-use Rattle.registers.specs.Registers.{holding_pool, account_pool, participant_meaning, account_meaning, FreshHoldings, FreshAccountHoldings}
+use Rattle.registers.specs.Registers.{participant_meaning, account_meaning, FreshHoldings, FreshAccountHoldings}
 
 row_fresh : (b : Bool) (opening sellable : ℕ) → sellable ≡ opening → FreshPool (cond b (Some (pool_of opening sellable)) None)
 row_fresh b opening sellable e = cond_both b _ _ FreshPool (λ t. e) (λ t. tt)

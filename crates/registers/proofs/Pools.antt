@@ -13,11 +13,11 @@ use Rattle.tables.specs.declared.rows.AccountHolding.{AccountHolding}
 use Rattle.tables.specs.declared.rows.Designation.{Designation}
 use Rattle.lookup.specs.Orders.{pair_order}
 use Rattle.lookup.specs.Lookup.{seek, some_of}
-use Rattle.tables.specs.Rows.{pair, holding_bounds, holding_present, holding_key, no_holding, with_sellable, account_holding_bounds, account_holding_present, account_holding_key, no_account_holding, with_account_sellable, designation_key}
+use Rattle.tables.specs.Rows.{pair, holding_bounds, holding_key, no_holding, with_sellable, account_holding_bounds, account_holding_key, no_account_holding, with_account_sellable, designation_key}
 use Rattle.tables.proofs.Lent.{keys_set}
 use Rattle.registers.specs.declared.pool.Pool.{Pool}
 use Rattle.registers.specs.Meaning.{Meaning, pool_of, with_pool, drawn, restored, draw_in, restore_in, left_in, again_in}
-use Rattle.registers.specs.Registers.{position, designated, participant_finds, participant_meaning, account_finds, account_meaning}
+use Rattle.registers.specs.Registers.{position, designated, participant_finds, account_finds}
 
 abbrev meaning_of : (ℕ → Option Pool) → (ℕ → ℕ → ℕ → Result ℕ Refusal) → Meaning
 meaning_of p f = record { pools = p; finds = f }

@@ -1,5 +1,5 @@
 -- What a register means: pools of shares, and how an order finds its pool.
-use Rattle.std.specs.Prelude.{◌≡◌, ℕ, ◌+◌, ◌-◌, ◌≤◌, Bool, cond, Some, None, Ok, Err, Option, Result, ◌==◌, nat_le}
+use Rattle.std.specs.Prelude.{◌≡◌, ℕ, ◌+◌, ◌-◌, ◌≤◌, cond, Some, None, Ok, Err, Option, Result, ◌==◌, nat_le}
 use Rattle.rules.specs.declared.refusal.Refusal.{Refusal}
 use Rattle.rules.specs.declared.refusal.Refusal.TheVariants.{ShortBalance, Unsound}
 use Rattle.rules.specs.declared.range.Quantity.TheVariants.{Holding}

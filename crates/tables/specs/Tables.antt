@@ -1,5 +1,5 @@
 -- Lent tables, whose first rows are their lines.
-use Rattle.std.specs.Prelude.{ℕ, Bool, cond, Ok, Err, Result, nat_lt}
+use Rattle.std.specs.Prelude.{ℕ, cond, Ok, Err, Result, nat_lt}
 use Rattle.rules.specs.declared.refusal.Refusal.{Refusal}
 use Rattle.rules.specs.declared.refusal.Refusal.TheVariants.{Room}
 

@@ -1,9 +1,9 @@
-use Rattle.std.proofs.Common.{◌≡◌, ℕ, ◌+◌, ◌-◌, ◌*◌, ◌<◌, ◌≤◌, true, false, eqb, List, length, take, drop, IfSome, is_ok, Some, None, Ok, Err, Option, sym, refl, ap, ◌∙◌, subst, ⊎_elim, arith}
+use Rattle.std.proofs.Common.{◌≡◌, ℕ, ◌+◌, ◌-◌, ◌<◌, ◌≤◌, true, false, eqb, List, length, take, drop, IfSome, is_ok, Some, None, Ok, Err, Option, sym, ap, ◌∙◌, subst, ⊎_elim, arith}
 use Rattle.std.proofs.lemmas.Bool.{eqb-false, cases_lt}
 use Rattle.std.proofs.lemmas.List.{take_rest, drop-drop}
 use Rattle.std.proofs.lemmas.Result.{err_from_is_err_and}
 use Rattle.fields.specs.Layout.{width_of}
-use Rattle.dayfile.specs.Groups.{group, turn, Lines}
+use Rattle.dayfile.specs.Groups.{group, turn}
 use Rattle.dayfile.proofs.Groups.{refused, over, more, lines_more, width_more, long_if_ok}
 use Rattle.dayfile.proofs.group.counted.Goals as goal
 

@@ -1,4 +1,4 @@
-use Rattle.std.proofs.Common.{◌≡◌, ℕ, ◌+◌, ◌-◌, ◌*◌, ◌<◌, ◌≤◌, true, length, drop}
+use Rattle.std.proofs.Common.{◌≡◌, ◌+◌, ◌-◌, ◌*◌, ◌≤◌, length, drop}
 use Rattle.fields.specs.Layout.{width_of}
 use Rattle.dayfile.specs.Groups.{group, Lines}
 use Rattle.dayfile.proofs.group.counted.Given as goal

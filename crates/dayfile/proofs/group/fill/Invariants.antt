@@ -1,4 +1,4 @@
-use Rattle.std.proofs.Common.{◌≡◌, ℕ, ◌+◌, ◌-◌, ◌*◌, ◌<◌, ◌≤◌, ◌++◌, length, drop}
+use Rattle.std.proofs.Common.{◌≡◌, ◌+◌, ◌*◌, ◌≤◌, ◌++◌, length, drop}
 use Rattle.fields.specs.Layout.{width_of}
 use Rattle.dayfile.specs.Groups.{rows_of}
 use Rattle.dayfile.proofs.group.fill.Given as goal

@@ -1,4 +1,4 @@
-use Rattle.std.proofs.Common.{◌≡◌, ℕ, List, ◌++◌, vec_items, sym, ap, ◌∙◌, subst}
+use Rattle.std.proofs.Common.{ℕ, List, ◌++◌, sym, ap, ◌∙◌, subst}
 use Rattle.desk.specs.Output.{Output, judged, program_room, too_long}
 use Rattle.desk.specs.Printed.{fault_line}
 use Rattle.desk.proofs.output.output.Goals as goal

@@ -1,5 +1,5 @@
-use Rattle.std.proofs.Common.{◌≡◌, map, Some, None, sym, ◌∙◌, subst}
-use Rattle.lookup.specs.Lookup.{seek, Found}
+use Rattle.std.proofs.Common.{map, sym, ◌∙◌, subst}
+use Rattle.lookup.specs.Lookup.{Found}
 use Rattle.lookup.proofs.Seeks.{on_absent, on_less, on_equal, on_greater, on_end, finds}
 use Rattle.lookup.proofs.search.find.Goals as goal
 use Rattle.lookup.proofs.search.find.Goals.{in-Some+in-Less, in_default}

@@ -1,6 +1,6 @@
 use Rattle.std.proofs.Common.{map, sym, subst}
 use Rattle.lookup.specs.Lookup.{Found}
-use Rattle.lookup.proofs.Seeks.{finds, found_held}
+use Rattle.lookup.proofs.Seeks.{finds}
 use Rattle.lookup.proofs.search.look.Goals as goal
 
 pub returns-then-rising : goal.returns-then-rising
