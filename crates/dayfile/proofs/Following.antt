@@ -1,6 +1,6 @@
 -- Lines that may follow one another are lines whose keys rise.
 use Rattle.std.proofs.Common.{◌≡◌, ℕ, ◌+◌, ◌<◌, ◌≤◌, Bool, true, false, cond, eqb, ltb, List, [], ◌∷◌, map, Some, None, Ok, Err, Option, Ordering, sym, refl, ap, ◌∙◌, subst, ⊎_elim, arith}
-use Rattle.std.specs.List.{AllByRecursion as All}
+use Rattle.std.specs.List.{AllByRecursion}
 use Rattle.std.proofs.lemmas.Bool.{and_parts, cases_eq, eq-eqb, ne_eqb, lt-ltb}
 use Rattle.std.proofs.lemmas.Bool.Decides.{nat_tests}
 use Rattle.rules.specs.declared.refusal.Refusal.TheVariants as refusal
@@ -24,14 +24,14 @@ above_ok false k f t e = clash (cc)
 
 -- a kind whose lines only have to rise
 module _ {R K : Type 0} (kind : Kind R (Option K)) (order : K → K → Ordering) (named : R → Option K) (key : R → K) (Good : R → Type 0) (has : (x : R) → Good x → named x ≡ Some (key x)) (is : (last : Option K) (x : R) → kind.step last x ≡ above order last (key x)) where
-  pub steps_rise : (rows : List R) (last : Option K) → All Good rows → Steps kind last rows → rise_from order last (map named rows) ≡ true
+  pub steps_rise : (rows : List R) (last : Option K) → AllByRecursion Good rows → Steps kind last rows → rise_from order last (map named rows) ≡ true
   steps_rise [] last a s = refl
   steps_rise (x ∷ xs) last a s =
       let u = above_ok (is_above order last (key x)) (key x) (record { cause = refusal.Sequence; column = 1 }) s.0 (sym (is last x) ∙ s.1) in
       let more = steps_rise xs (Some (key x)) a.1 (subst (λ t. Steps kind t xs) u.1 s.2) in
       ap (λ o. rise_from order last (o ∷ map named xs)) (has x a.0) ∙ rw u.0 more
 
-  pub rise_steps : (rows : List R) (last : Option K) → All Good rows → rise_from order last (map named rows) ≡ true → Steps kind last rows
+  pub rise_steps : (rows : List R) (last : Option K) → AllByRecursion Good rows → rise_from order last (map named rows) ≡ true → Steps kind last rows
   rise_steps [] last a r = tt
   rise_steps (x ∷ xs) last a r =
       let b = and_parts (is_above order last (key x)) (rise_from order (Some (key x)) (map named xs)) (sym (ap (λ o. rise_from order last (o ∷ map named xs)) (has x a.0)) ∙ r) in (
@@ -124,7 +124,7 @@ stepped so_far (Some r) d t c e =
 regroup : (a b c : ℕ) → a + (b + c) ≡ (a + b) + c
 regroup a b c = omega arith
 
-pub named_few : (rows : List Designation) (s : Option Run) (so_far : ℕ → ℕ) → All (λ d. designation_present d ≡ true) rows → Counted s so_far → ((a : ℕ) → so_far a ≤ most_named) → Steps designation_kind s rows → (rise_from pair_order (last_of s) (map designation_key rows) ≡ true) × ((a : ℕ) → so_far a + named_by a rows ≤ most_named)
+pub named_few : (rows : List Designation) (s : Option Run) (so_far : ℕ → ℕ) → AllByRecursion (λ d. designation_present d ≡ true) rows → Counted s so_far → ((a : ℕ) → so_far a ≤ most_named) → Steps designation_kind s rows → (rise_from pair_order (last_of s) (map designation_key rows) ≡ true) × ((a : ℕ) → so_far a + named_by a rows ≤ most_named)
 named_few [] s so_far g c few st = (refl, λ a. omega (arith, few a))
 named_few (d ∷ ds) s so_far g c few st =
     let p = stepped so_far s d st.0 c st.1 in
@@ -151,7 +151,7 @@ may_follow so_far (Some r) d c up l =
     (Some (record { last = key d; named = 1 }), first ∙ rw (ne_eqb r.last.first d.account q) refl))
     (cases_eq r.last.first d.account)
 
-pub few_named : (rows : List Designation) (s : Option Run) (so_far : ℕ → ℕ) → All (λ d. designation_present d ≡ true) rows → Counted s so_far → rise_from pair_order (last_of s) (map designation_key rows) ≡ true → ((a : ℕ) → so_far a + named_by a rows ≤ most_named) → Steps designation_kind s rows
+pub few_named : (rows : List Designation) (s : Option Run) (so_far : ℕ → ℕ) → AllByRecursion (λ d. designation_present d ≡ true) rows → Counted s so_far → rise_from pair_order (last_of s) (map designation_key rows) ≡ true → ((a : ℕ) → so_far a + named_by a rows ≤ most_named) → Steps designation_kind s rows
 few_named [] s so_far g c up few = tt
 few_named (d ∷ ds) s so_far g c up few =
     let b = and_parts (is_above pair_order (last_of s) (key d)) (rise_from pair_order (Some (key d)) (map designation_key ds)) (sym (ap (λ o. rise_from pair_order (last_of s) (o ∷ map designation_key ds)) (has_key d g.0)) ∙ up) in
@@ -160,10 +160,10 @@ few_named (d ∷ ds) s so_far g c up few =
     (m.0, m.1, few_named ds m.0 (λ a. so_far a + one d a) g.1 p.2 (ap (λ o. rise_from pair_order o (map designation_key ds)) p.1 ∙ b.1) (λ a. omega (arith, few a, regroup (so_far a) (one d a) (named_by a ds))))
 
 -- the whole group: it rises, and no account names too many
-pub designations_step : (rows : List Designation) → All (λ d. designation_present d ≡ true) rows → Steps designation_kind None rows → (rise_from pair_order None (map designation_key rows) ≡ true) × ((a : ℕ) → named_by a rows ≤ most_named)
+pub designations_step : (rows : List Designation) → AllByRecursion (λ d. designation_present d ≡ true) rows → Steps designation_kind None rows → (rise_from pair_order None (map designation_key rows) ≡ true) × ((a : ℕ) → named_by a rows ≤ most_named)
 designations_step rows g st =
     let r = named_few rows None (λ _. 0) g (λ a. refl) (λ a. omega arith) st in
     (r.0, λ a. omega (arith, r.1 a))
 
-pub designations_follow : (rows : List Designation) → All (λ d. designation_present d ≡ true) rows → rise_from pair_order None (map designation_key rows) ≡ true → ((a : ℕ) → named_by a rows ≤ most_named) → Steps designation_kind None rows
+pub designations_follow : (rows : List Designation) → AllByRecursion (λ d. designation_present d ≡ true) rows → rise_from pair_order None (map designation_key rows) ≡ true → ((a : ℕ) → named_by a rows ≤ most_named) → Steps designation_kind None rows
 designations_follow rows g up few = few_named rows None (λ _. 0) g (λ a. refl) up (λ a. omega (arith, few a))

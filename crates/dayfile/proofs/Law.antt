@@ -1,6 +1,6 @@
 -- A day part is accepted exactly where the input begins with the written form of a description that is well formed and fits.
 use Rattle.std.proofs.Common.{◌≡◌, ℕ, zero, suc, ◌+◌, ◌*◌, ◌≤◌, Bool, true, false, cond, eqb, List, [], ◌∷◌, ◌++◌, map, length, get_or, take, drop, Some, None, Ok, Err, Option, Result, Ordering, sym, refl, ap, ◌∙◌, subst, append_assoc, arith}
-use Rattle.std.specs.List.{flat_map, AllByRecursion as All}
+use Rattle.std.specs.List.{flat_map, AllByRecursion}
 use Rattle.std.proofs.lemmas.List.{take-append-drop, drop-drop, drop_at}
 use Rattle.std.proofs.lemmas.Bool.{eqb-true, eq-eqb, and_parts}
 use Rattle.std.proofs.lemmas.Bool.Decides.{nat_tests}
@@ -68,7 +68,7 @@ holding_has h g = ap (λ b. cond b (Some (pair h.participant h.code)) None) g.0
 account_holding_has : (h : AccountHolding) → GoodAccountHolding h → account_holding_key h ≡ Some (pair h.account h.code)
 account_holding_has h g = ap (λ b. cond b (Some (pair h.account h.code)) None) g.0
 
-all_fresh : {X : Type 0} (P Q : X → Type 0) (xs : List X) → All (λ x. P x × Q x) xs → All Q xs
+all_fresh : {X : Type 0} (P Q : X → Type 0) (xs : List X) → AllByRecursion (λ x. P x × Q x) xs → AllByRecursion Q xs
 all_fresh P Q [] a = tt
 all_fresh P Q (x ∷ xs) a = (a.0.1, all_fresh P Q xs a.1)
 
@@ -224,11 +224,11 @@ module _ {R K : Type 0} (order : K → K → Ordering) (present : R → Bool) (k
   by_presence true x ks last e = (refl, (and_parts (is_above order last (key x)) (rise_from order (Some (key x)) ks) e).1)
   by_presence false x ks last e = clash (cc)
 
-  all_present : (rows : List R) (last : Option K) → rise_from order last (map named rows) ≡ true → All (λ x. present x ≡ true) rows
+  all_present : (rows : List R) (last : Option K) → rise_from order last (map named rows) ≡ true → AllByRecursion (λ x. present x ≡ true) rows
   all_present [] last e = tt
   all_present (x ∷ xs) last e = let b = by_presence (present x) x (map named xs) last e in (b.0, all_present xs (Some (key x)) b.1)
 
-all_both : {X : Type 0} (P Q : X → Type 0) (xs : List X) → All P xs → All Q xs → All (λ x. P x × Q x) xs
+all_both : {X : Type 0} (P Q : X → Type 0) (xs : List X) → AllByRecursion P xs → AllByRecursion Q xs → AllByRecursion (λ x. P x × Q x) xs
 all_both P Q [] a b = tt
 all_both P Q (x ∷ xs) a b = ((a.0, b.0), all_both P Q xs a.1 b.1)
 
@@ -269,16 +269,16 @@ module _ (d : Description) (events : List ℕ) (w : WellFormed d) where
   whole_is : written d ++ events ≡ whole
   whole_is = six (written_line letter.Day (opening_numbers d)) (flat_map security_line d.securities) (flat_map holding_line d.holdings) (flat_map account_holding_line d.account_holdings) (flat_map designation_line d.designations) (written_line letter.End (end_numbers (counts_of d))) events
 
-  good_securities : All GoodSecurity d.securities
+  good_securities : AllByRecursion GoodSecurity d.securities
   good_securities = all_present number_order security_present (λ s. s.code) d.securities None (words_mean number_order numbers_total (map security_key d.securities) w.securities)
 
-  good_holdings : All GoodHolding d.holdings
+  good_holdings : AllByRecursion GoodHolding d.holdings
   good_holdings = all_both (λ h. holding_present h ≡ true) (λ h. h.sellable ≡ h.opening) d.holdings (all_present pair_order holding_present (λ h. pair h.participant h.code) d.holdings None (words_mean pair_order pairs_total (map holding_key d.holdings) w.holdings)) w.holdings_fresh
 
-  good_account_holdings : All GoodAccountHolding d.account_holdings
+  good_account_holdings : AllByRecursion GoodAccountHolding d.account_holdings
   good_account_holdings = all_both (λ h. account_holding_present h ≡ true) (λ h. h.sellable ≡ h.opening) d.account_holdings (all_present pair_order account_holding_present (λ h. pair h.account h.code) d.account_holdings None (words_mean pair_order pairs_total (map account_holding_key d.account_holdings) w.account_holdings)) w.account_holdings_fresh
 
-  good_designations : All GoodDesignation d.designations
+  good_designations : AllByRecursion GoodDesignation d.designations
   good_designations = all_present pair_order designation_present (λ g. pair g.account g.participant) d.designations None (words_mean pair_order pairs_total (map designation_key d.designations) w.designations)
 
   -- where each group begins

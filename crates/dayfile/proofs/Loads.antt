@@ -1,6 +1,6 @@
 -- What a load leaves, in the file's own terms.
 use Rattle.std.proofs.Common.{◌≡◌, ℕ, zero, suc, ◌*◌, ◌<◌, true, List, [], ◌∷◌, length, drop, is_ok, Ok, Err, Result, sym, refl, ap, ◌∙◌, subst, arith}
-use Rattle.std.specs.List.{AllByRecursion as All}
+use Rattle.std.specs.List.{AllByRecursion}
 use Rattle.std.proofs.lemmas.List.{length-append, take_at}
 use Rattle.rules.specs.declared.letter.Part.TheVariants as part
 use Rattle.tables.specs.declared.rows.Holding.{Holding}
@@ -39,11 +39,11 @@ module _ {R S : Type 0} (kind : Kind R S) where
   filled_lines : (room at : ℕ) (input : List ℕ) (n : ℕ) (old : Lent R) → Lines kind room at input n → lines_of (filled kind n (drop at input) old) ≡ rows_of kind n (drop at input)
   filled_lines room at input n old l = take_at (rows_of kind n (drop at input)) (drop n old.rows) n (rows_long n (drop at input) l.good)
 
-fresh_holdings : (hs : List Holding) → All (λ h. h.sellable ≡ h.opening) hs → FreshHoldings hs
+fresh_holdings : (hs : List Holding) → AllByRecursion (λ h. h.sellable ≡ h.opening) hs → FreshHoldings hs
 fresh_holdings [] a = tt
 fresh_holdings (h ∷ hs) a = (a.0, fresh_holdings hs a.1)
 
-fresh_account_holdings : (hs : List AccountHolding) → All (λ h. h.sellable ≡ h.opening) hs → FreshAccountHoldings hs
+fresh_account_holdings : (hs : List AccountHolding) → AllByRecursion (λ h. h.sellable ≡ h.opening) hs → FreshAccountHoldings hs
 fresh_account_holdings [] a = tt
 fresh_account_holdings (h ∷ hs) a = (a.0, fresh_account_holdings hs a.1)
 

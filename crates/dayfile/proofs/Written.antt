@@ -1,6 +1,6 @@
 -- A group that is accepted is its rows as they are written, and rows that may follow one another are accepted so.
 use Rattle.std.proofs.Common.{◌≡◌, ℕ, zero, suc, ◌+◌, ◌*◌, ◌≤◌, Bool, true, false, cond, List, [], ◌∷◌, ◌++◌, length, take, drop, Some, None, Ok, Err, Option, Result, sym, refl, ap, ◌∙◌, subst, append_assoc, append-nil, mul-zero, mul-suc, arith, take-add}
-use Rattle.std.specs.List.{flat_map, AllByRecursion as All}
+use Rattle.std.specs.List.{flat_map, AllByRecursion}
 use Rattle.std.proofs.lemmas.List.{drop-drop, drop_at, length-append}
 use Rattle.rules.specs.Letters.{letter_rules}
 use Rattle.fields.specs.declared.fault.LineFault.{LineFault}
@@ -60,7 +60,7 @@ module _ {R S : Type 0} (kind : Kind R S) where
     pub record Grouped (s : S) (line : List ℕ) (n : ℕ) : Type 0 where
       pub long : length (rows_of kind n line) ≡ n
       pub steps : Steps s (rows_of kind n line)
-      pub good : All Good (rows_of kind n line)
+      pub good : AllByRecursion Good (rows_of kind n line)
       pub form : take (width_of kind.letter * n) line ≡ flat_map wrote (rows_of kind n line)
 
     abbrev Told : ℕ → S → List ℕ → ℕ → Type 0
@@ -79,7 +79,7 @@ module _ {R S : Type 0} (kind : Kind R S) where
           record {
             long = ap length f ∙ ap suc g.long;
             steps = subst (Steps s) (sym f) (t, r, g.steps);
-            good = subst (All Good) (sym f) (is.1, g.good);
+            good = subst (AllByRecursion Good) (sym f) (is.1, g.good);
             form = ap (λ (y : ℕ). take y line) w ∙ take-add (width_of kind.letter) (width_of kind.letter * m) line ∙ ap (λ (u : List ℕ). u ++ take (width_of kind.letter * m) (drop (width_of kind.letter) line)) is.0 ∙ ap (λ (u : List ℕ). wrote x ++ u) g.form ∙ ap (flat_map wrote) (sym f);
           }
 
@@ -117,7 +117,7 @@ module _ {R S : Type 0} (kind : Kind R S) where
       turn_over : (full : Bool) (s : S) (nr : ℕ) (rest : List ℕ) → starts kind.letter rest ≡ false → turn kind full s nr rest ≡ Ok None
       turn_over full s nr rest e = ap (λ b. cond b (and_then (line_at (letter_rules kind.letter).byte nr (following kind s rest)) (λ y. cond full (Err (no_room kind.letter nr)) (Ok (Some y)))) (Ok None)) e
 
-      accepts : (rows : List R) (room count : ℕ) (s : S) (nr : ℕ) (rest : List ℕ) → All Good rows → Steps s rows → length rows ≤ room → starts kind.letter rest ≡ false → group kind room count s nr (flat_map wrote rows ++ rest) ≡ Ok (count + length rows)
+      accepts : (rows : List R) (room count : ℕ) (s : S) (nr : ℕ) (rest : List ℕ) → AllByRecursion Good rows → Steps s rows → length rows ≤ room → starts kind.letter rest ≡ false → group kind room count s nr (flat_map wrote rows ++ rest) ≡ Ok (count + length rows)
       unfolding group
       accepts [] zero count s nr rest a r h o = ap (λ t. and_then t (λ w. Ok count)) (turn_over true s nr rest o) ∙ ap Ok (omega arith)
       accepts [] (suc room) count s nr rest a r h o = ap (λ t. and_then t (λ w. elim w [ None ↦ Ok count | Some k ↦ group kind room (count + 1) k (nr + 1) (drop (width_of kind.letter) rest) ])) (turn_over false s nr rest o) ∙ ap Ok (omega arith)
@@ -133,11 +133,11 @@ module _ {R S : Type 0} (kind : Kind R S) where
           ∙ next ∙ ap Ok (omega arith)
 
       -- rows as they are written are accepted
-      pub accepted : (rows : List R) (room : ℕ) (s : S) (nr : ℕ) (rest : List ℕ) → All Good rows → Steps s rows → length rows ≤ room → starts kind.letter rest ≡ false → group kind room 0 s nr (flat_map wrote rows ++ rest) ≡ Ok (length rows)
+      pub accepted : (rows : List R) (room : ℕ) (s : S) (nr : ℕ) (rest : List ℕ) → AllByRecursion Good rows → Steps s rows → length rows ≤ room → starts kind.letter rest ≡ false → group kind room 0 s nr (flat_map wrote rows ++ rest) ≡ Ok (length rows)
       accepted rows room s nr rest a r h o = accepts rows room 0 s nr rest a r h o ∙ ap Ok (omega arith)
 
       -- and are read back
-      pub rows_written : (rows : List R) (rest : List ℕ) → All Good rows → rows_of kind (length rows) (flat_map wrote rows ++ rest) ≡ rows
+      pub rows_written : (rows : List R) (rest : List ℕ) → AllByRecursion Good rows → rows_of kind (length rows) (flat_map wrote rows ++ rest) ≡ rows
       rows_written [] rest a = refl
       rows_written (x ∷ xs) rest a =
           let more = flat_map wrote xs ++ rest in
@@ -148,6 +148,6 @@ module _ {R S : Type 0} (kind : Kind R S) where
           ∙ ap (λ (u : List ℕ). x ∷ rows_of kind (length xs) u) d
           ∙ ap (λ us. x ∷ us) (rows_written xs rest a.1)
 
-      pub joined_wide : (rows : List R) → All Good rows → length (flat_map wrote rows) ≡ width_of kind.letter * length rows
+      pub joined_wide : (rows : List R) → AllByRecursion Good rows → length (flat_map wrote rows) ≡ width_of kind.letter * length rows
       joined_wide [] a = sym (mul-zero (width_of kind.letter))
       joined_wide (x ∷ xs) a = length-append (wrote x) (flat_map wrote xs) ∙ omega (arith, lined.wide x a.0, joined_wide xs a.1, mul-suc (width_of kind.letter) (length xs))

@@ -1,6 +1,6 @@
 -- A day part in the file's own terms: the description that it is the written form of.
 use Rattle.std.specs.Prelude.{◌≡◌, ℕ, ◌+◌, ◌≤◌, cond, List, [], ◌∷◌, ◌++◌, map, length, drop, ◌==◌}
-use Rattle.std.specs.List.{flat_map, AllByRecursion as All}
+use Rattle.std.specs.List.{flat_map, AllByRecursion}
 use Rattle.rules.specs.declared.letter.Letter.TheVariants as letter
 use Rattle.rules.specs.Buyings.{buying_rules}
 use Rattle.rules.specs.Letters.{letter_rules}
@@ -78,9 +78,9 @@ pub record WellFormed (d : Description) : Type 0 where
   pub opening : Within (letter_rules letter.Day).fields (opening_numbers d)
   pub securities : Rising number_order (map security_key d.securities)
   pub holdings : Rising pair_order (map holding_key d.holdings)
-  pub holdings_fresh : All (λ h. h.sellable ≡ h.opening) d.holdings
+  pub holdings_fresh : AllByRecursion (λ h. h.sellable ≡ h.opening) d.holdings
   pub account_holdings : Rising pair_order (map account_holding_key d.account_holdings)
-  pub account_holdings_fresh : All (λ h. h.sellable ≡ h.opening) d.account_holdings
+  pub account_holdings_fresh : AllByRecursion (λ h. h.sellable ≡ h.opening) d.account_holdings
   pub designations : Rising pair_order (map designation_key d.designations)
   pub few_named : (account : ℕ) → named_by account d.designations ≤ most_named
   pub ending : Within (letter_rules letter.End).fields (end_numbers (counts_of d))
