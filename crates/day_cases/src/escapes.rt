@@ -1,9 +1,9 @@
 ghost use Rattle.std.specs.Prelude.{◌<◌, IfSome, OnOk};
 ghost use Rattle.day_cases.specs.Written.{Grown};
 
-// How far an escape has been read.
 use anyhow::anyhow;
 
+// How far an escape has been read.
 #[derive(Clone, Copy)]
 enum Escape {
     Outside,
