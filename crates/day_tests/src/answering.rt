@@ -2,7 +2,6 @@ ghost use Rattle.std.specs.Prelude.{◌≡◌, ◌++◌, OnOk};
 
 use desk::output::output;
 use std::alloc::{AllocError, Global};
-use std::process::Abort;
 use std::test::Fail;
 
 // A day part of 516 bytes, with two lines in each group.
@@ -25,20 +24,18 @@ fn ends_early(heap: Global, letter: u8, line: u64) -> Result<String, AllocError>
 }
 
 // Checks the answer wherever the input ends within a line, and puts the line behind the input.
-fn check_cuts(
-    rt: &impl Abort,
-    heap: Global,
-    input: &mut Vec<u8>,
-    line: &[u8],
-    number: u64,
-) -> Result<(), Fail>
+fn check_cuts(heap: Global, input: &mut Vec<u8>, line: &[u8], number: u64) -> Result<(), Fail>
     ensures { OnOk result (input.new.items ≡ input.old.items ++ line.now) }
 {
     let mut letter = 0;
     for b in line {
         let fault = ends_early(heap, letter, number)?;
-        assert_eq!(rt; fault.len(), 82);
-        assert_eq!(rt; output(heap, input)?.as_slice(), fault.as_bytes());
+        if fault.len() != 82 {
+            return Err(Fail::new("the fault expected is not of 82 bytes"));
+        }
+        if output(heap, input)?.as_slice() != fault.as_bytes() {
+            return Err(Fail::new("the answer is not that the input ends too early"));
+        }
         if letter == 0 {
             letter = *b;
         }
@@ -52,7 +49,7 @@ fn a_day_part_that_is_cut_off_at_any_byte_is_too_short(rt: HostRuntime) -> Resul
     let heap = rt.alloc();
     let mut input = Vec::new(heap);
     for (place, line) in LINES.iter().enumerate() {
-        check_cuts(&rt, heap, &mut input, line, place as u64 + 1)?;
+        check_cuts(heap, &mut input, line, place as u64 + 1)?;
     }
     assert_eq!(rt; input.len(), 516);
     assert_eq!(rt; output(heap, &input)?.len(), 0);

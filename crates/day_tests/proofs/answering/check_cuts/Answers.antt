@@ -3,7 +3,7 @@ use Rattle.std.proofs.lemmas.List.{take_more}
 use Rattle.day_tests.proofs.answering.check_cuts.Goals as goal
 
 pub loop-b-preserved : goal.loop-b-preserved
-loop-b-preserved g c =
+loop-b-preserved c =
     let start = vec_items c.args.input.now in
     let line = c.args.line.now in
     let i = c.loop-b.b-index in
@@ -14,7 +14,7 @@ loop-b-preserved g c =
     ∙ ap (λ (t : List ℕ). start ++ t) (sym (take_more line i 0 c.loop-b-test.true))
 
 pub returns : goal.returns
-returns g c =
+returns c =
     let start = vec_items c.args.input.now in
     let line = c.args.line.now in
     let whole : length line ≤ c.loop-b.b-index = omega arith in

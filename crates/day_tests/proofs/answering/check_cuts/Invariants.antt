@@ -3,4 +3,4 @@ use Rattle.day_tests.proofs.answering.check_cuts.Given as goal
 
 -- The bytes so far stand behind the input.
 abbrev pub invariant-loop-b : goal.invariant-loop-b
-invariant-loop-b g l = vec_items l.input ≡ vec_items l.initial.input ++ take l.b-index l.line
+invariant-loop-b l = vec_items l.input ≡ vec_items l.initial.input ++ take l.b-index l.line
