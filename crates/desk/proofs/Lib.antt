@@ -1,2 +1,4 @@
-pub mod Turns
 pub mod Days
+pub mod Lines
+pub mod Reached
+pub mod Turns

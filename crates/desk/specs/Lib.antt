@@ -1,4 +1,6 @@
 pub mod Printed
 pub mod Events
+pub mod Effects
 pub mod Answered
+pub mod Stops
 pub mod Output

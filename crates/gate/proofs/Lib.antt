@@ -1,1 +1,4 @@
+pub mod Asked
+pub mod Closings
+pub mod Listing
 pub mod Notices

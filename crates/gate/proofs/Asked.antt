@@ -1,0 +1,78 @@
+-- What an accepted ask has passed.
+use Rattle.std.proofs.Common.{◌≡◌, ℕ, ◌+◌, ◌*◌, ◌<◌, ◌≤◌, Bool, true, false, not, ◌||◌, eqb, ltb, leb, pos, IfSome, Some, None, Option, refl, le_trans, mul-le-mul, arith, lit≤}
+use lib.Signed.{le_z}
+use Rattle.std.proofs.lemmas.Bool.{and_parts, leb-false, ltb-false, not-false, or_parts}
+use Rattle.rules.specs.declared.price.PriceBand.{PriceBand}
+use Rattle.rules.specs.declared.price.PriceBand.TheVariants.{Five, Ten}
+use Rattle.rules.specs.declared.range.Quantity.TheVariants as quantity
+use Rattle.rules.specs.declared.side.Side.{Side}
+use Rattle.rules.specs.declared.side.Side.TheVariants.{Buy, Sell}
+use Rattle.rules.specs.Phases.{phase_rules}
+use Rattle.rules.specs.Prices.{band_percent, highest_price, lowest_price}
+use Rattle.rules.specs.Ranges.{in_range, range_of}
+use Rattle.rules.specs.declared.refusal.Refusal.{Refusal}
+use Rattle.rules.specs.declared.refusal.Refusal.TheVariants as refusal
+use Rattle.rules.specs.Rules.{first_broken, when}
+use Rattle.rules.specs.Sides.{by_side, side_rules}
+use Rattle.lent_rows.specs.declared.row.Security.{Security}
+use Rattle.lent_rows.specs.Rows.{security_present}
+use Rattle.registers.specs.Meaning.{Meaning}
+use Rattle.orders.specs.declared.order.Ask.{Ask}
+use Rattle.orders.proofs.Passed.{passed, passed_any}
+use Rattle.orders.proofs.Sound.{in_ends}
+use Rattle.gate.specs.declared.figures.Figures.{Figures}
+use Rattle.gate.specs.Balances.{most_balance, most_orders}
+use Rattle.gate.specs.Desks.{by_account}
+use Rattle.gate.specs.Reserves.{asked_rules, beyond_limits, buy_rules, buying_rule, price_rule, sell_rules, side_faults, wants}
+
+-- there is room for one more order, and its value is within the balance's bounds
+pub record Asked (f : Figures) (room : ℕ) (a : Ask) : Type 0 where
+  pub room_left : f.count < room
+  pub few : f.count < 50000
+  pub worth : a.price * a.shares ≤ most_balance
+
+percent_most : (b : PriceBand) → 100 + band_percent b ≤ 110
+percent_most Five = lit≤ tt
+percent_most Ten = lit≤ tt
+
+-- the highest price of a security that is present
+highest_most : (s : Security) → security_present s ≡ true → highest_price s.close s.band ≤ 999999
+highest_most s e =
+    let close = in_ends (range_of quantity.Close) s.close (and_parts (in_range (range_of quantity.Code) s.code) _ e).1 in
+    let product : s.close * (100 + band_percent s.band) ≤ 900000 * 110 = mul-le-mul close.1 (percent_most s.band) in
+    omega arith
+
+alone : (b : Bool) (e : Refusal) → when b e ≡ None → b ≡ false
+alone true e h = let z : ◌≡◌ {A = ℕ} 0 1 = cc in absurd (omega arith)
+alone false e h = refl
+
+price_most : (s : Option Security) (price : ℕ) (e : Refusal) → IfSome s (λ x. security_present x ≡ true) → wants s e ≡ None → price_rule s price ≡ None → price ≤ 999999
+price_most (Some s) price e p w h =
+    let below = ltb-false (highest_price s.close s.band) price (or_parts (ltb price (lowest_price s.close s.band)) _ (alone (beyond_limits s price) refusal.Price h)).1 in
+    le_trans below (highest_most s p)
+price_most None price e p w h = let z : ◌≡◌ {A = ℕ} 0 1 = cc in absurd (omega arith)
+
+lot_most : (side : Side) (shares : ℕ) → in_range (side_rules side).lot shares ≡ true → shares ≤ 1000000
+lot_most Buy shares e = (in_ends (side_rules Buy).lot shares e).1
+lot_most Sell shares e = (in_ends (side_rules Sell).lot shares e).1
+
+pub asked_passed : (f : Figures) (s : Option Security) (room : ℕ) (a : Ask) → IfSome s (λ x. security_present x ≡ true) → first_broken (asked_rules f s room a) ≡ None → Asked f room a
+asked_passed f s room a p h =
+    let hours = passed (not (phase_rules f.phase).orders) _ _ h in
+    let full = passed (leb room f.count || leb most_orders f.count) _ _ hours.1 in
+    let code = passed_any (wants s refusal.Code) _ full.1 in
+    let price = passed_any (price_rule s a.price) _ code.1 in
+    let lot = passed (not (in_range (side_rules a.side).lot a.shares)) _ _ price.1 in
+    let free = or_parts (leb room f.count) (leb most_orders f.count) full.0 in
+    let dear = price_most s a.price refusal.Code p code.0 price.0 in
+    let many = lot_most a.side a.shares (not-false _ lot.0) in
+    let worth : a.price * a.shares ≤ 999999 * 1000000 = mul-le-mul dear many in
+    record { room_left = leb-false _ _ free.0; few = leb-false _ _ free.1; worth = le_trans worth (lit≤ tt) }
+
+-- a buy that is accepted has found a balance above 0
+pub buy_open : (f : Figures) (s : Option Security) (p m : Meaning) (a : Ask) → first_broken (side_faults f s p m a) ≡ None → by_side a.side (le_z f.balance (pos 0)) false ≡ false
+buy_open f s p m a h = at a.side h
+  where
+    at : (side : Side) → first_broken (by_side side (buy_rules f s a) (sell_rules (by_account a.account p m) a)) ≡ None → by_side side (le_z f.balance (pos 0)) false ≡ false
+    at Buy e = (or_parts f.shut _ (passed (f.shut || le_z f.balance (pos 0)) _ None (passed_any (buying_rule s) _ (passed (not (eqb a.account 0)) _ _ e).1).1).0).1
+    at Sell e = refl

@@ -1,0 +1,4 @@
+// The security list of the day.
+#![tactic(auto)]
+
+pub mod list;
