@@ -3,15 +3,15 @@ ghost use Rattle.gate.specs.Opened.{OpenedBy};
 
 use gate::day::{LoadingDay, TradingDay};
 use gate::figures::Figures;
-use lent_rows::row::Security;
 use rules::buying::Buying;
 use rules::market::Market;
 use rules::notice::NoticeBand;
 use rules::phase::Phase;
 use rules::price::PriceBand;
 use rules::refusal::Refusal;
-use securities::list::SecurityList;
 use std::test::Fail;
+use tables::rows::Security;
+use tables::security_list::SecurityList;
 
 // Why a loading day came back, which is then given up.
 fn refusal_of(back: (LoadingDay, Refusal)) -> Refusal
@@ -124,7 +124,7 @@ fn closed_after(steps: u8) -> Result<Figures, (Figures, Refusal)> {
     for _ in 0..steps {
         let _ = day.step();
     }
-    match day.close(&[]) {
+    match day.close() {
         Ok(closed) => Ok(closed.figures()),
         Err(back) => {
             let (day, refusal) = back;

@@ -5,17 +5,17 @@ use dayfile::loading::load;
 use fields::fault::{DayFault, FieldFault, LineFault};
 use gate::day::LoadingDay;
 use gate::figures::Figures;
-use lent_rows::row::{AccountHolding, Designation, Holding, Security};
 use rules::buying::Buying;
 use rules::letter::Part;
 use rules::market::Market;
 use rules::phase::Phase;
 use rules::price::PriceBand;
 use rules::refusal::Refusal;
-use securities::list::SecurityList;
 use tables::account_holdings::AccountHoldings;
 use tables::designations::Designations;
 use tables::holdings::Holdings;
+use tables::rows::{AccountHolding, Designation, Holding, Security};
+use tables::security_list::SecurityList;
 
 // A day part of seven lines and 382 bytes, and an event.
 const GOOD: &[u8] = b"\

@@ -5,18 +5,18 @@ use dayfile::loaded::Loaded;
 use dayfile::loading::load;
 use fields::fault::DayFault;
 use gate::day::LoadingDay;
-use lent_rows::row::{AccountHolding, Designation, Holding, Security};
 use registers::Register;
 use registers::accounts::AccountRegister;
 use registers::participants::ParticipantRegister;
 use rules::buying::Buying;
 use rules::price::PriceBand;
 use rules::refusal::Refusal;
-use securities::list::SecurityList;
 use std::test::Fail;
 use tables::account_holdings::AccountHoldings;
 use tables::designations::Designations;
 use tables::holdings::Holdings;
+use tables::rows::{AccountHolding, Designation, Holding, Security};
+use tables::security_list::SecurityList;
 
 // A morning with three holdings of participants, two of accounts, and three designations.
 const MORNING: &[u8] = b"\

@@ -5,10 +5,10 @@ use Rattle.std.proofs.lemmas.Bool.{and_parts, cases_eq, eq-eqb, ne_eqb, lt-ltb}
 use Rattle.std.proofs.lemmas.Bool.Decides.{nat_tests}
 use Rattle.rules.specs.declared.refusal.Refusal.TheVariants as refusal
 use Rattle.lookup.specs.declared.key.Pair.{Pair}
-use Rattle.lent_rows.specs.declared.row.Designation.{Designation}
+use Rattle.tables.specs.declared.rows.Designation.{Designation}
 use Rattle.lookup.specs.Lookup.{is_above, rise_from}
 use Rattle.lookup.specs.Orders.{pair_order, is_less}
-use Rattle.lent_rows.specs.Rows.{pair, designation_present, designation_key}
+use Rattle.tables.specs.Rows.{pair, designation_present, designation_key}
 use Rattle.fields.specs.declared.fault.FieldFault.{FieldFault}
 use Rattle.fields.specs.Faults.{and_then}
 use Rattle.fields.proofs.Numbers.{by_then}

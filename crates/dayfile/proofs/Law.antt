@@ -8,13 +8,13 @@ use Rattle.rules.specs.declared.letter.Letter.{Letter}
 use Rattle.rules.specs.declared.letter.Letter.TheVariants as letter
 use Rattle.rules.specs.declared.refusal.Refusal.TheVariants as refusal
 use Rattle.rules.specs.Letters.{letter_rules}
-use Rattle.lent_rows.specs.declared.row.Security.{Security}
-use Rattle.lent_rows.specs.declared.row.Holding.{Holding}
-use Rattle.lent_rows.specs.declared.row.AccountHolding.{AccountHolding}
-use Rattle.lent_rows.specs.declared.row.Designation.{Designation}
+use Rattle.tables.specs.declared.rows.Security.{Security}
+use Rattle.tables.specs.declared.rows.Holding.{Holding}
+use Rattle.tables.specs.declared.rows.AccountHolding.{AccountHolding}
+use Rattle.tables.specs.declared.rows.Designation.{Designation}
 use Rattle.lookup.specs.Lookup.{is_above, rise_from}
 use Rattle.lookup.specs.Orders.{TotalOrder, number_order, pair_order}
-use Rattle.lent_rows.specs.Rows.{pair, security_present, security_key, holding_present, holding_key, account_holding_present, account_holding_key, designation_present, designation_key}
+use Rattle.tables.specs.Rows.{pair, security_present, security_key, holding_present, holding_key, account_holding_present, account_holding_key, designation_present, designation_key}
 use Rattle.lookup.proofs.Rise.{rising_means, words_mean}
 use Rattle.lookup.proofs.Holders.{pairs_total}
 use Rattle.fields.specs.declared.fault.FieldFault.{FieldFault}

@@ -3,8 +3,8 @@ use Rattle.std.proofs.Common.{◌≡◌, ℕ, zero, suc, ◌*◌, ◌<◌, true,
 use Rattle.std.specs.List.{AllByRecursion}
 use Rattle.std.proofs.lemmas.List.{length-append, take_at}
 use Rattle.rules.specs.declared.letter.Part.TheVariants as part
-use Rattle.lent_rows.specs.declared.row.Holding.{Holding}
-use Rattle.lent_rows.specs.declared.row.AccountHolding.{AccountHolding}
+use Rattle.tables.specs.declared.rows.Holding.{Holding}
+use Rattle.tables.specs.declared.rows.AccountHolding.{AccountHolding}
 use Rattle.registers.specs.Registers.{FreshHoldings, FreshAccountHoldings, participant_meaning, account_meaning}
 use Rattle.registers.proofs.Fresh.{fresh_lines, fresh_account_lines}
 use Rattle.registers.specs.Meaning.{Fresh}

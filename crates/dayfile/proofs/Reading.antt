@@ -15,11 +15,11 @@ use Rattle.rules.specs.Buyings.{buying_rules, buying_numbered}
 use Rattle.rules.specs.Letters.{letter_rules}
 use Rattle.rules.specs.Prices.{band_percent, band_of_percent}
 use Rattle.rules.specs.Ranges.{in_range, range_of}
-use Rattle.lent_rows.specs.declared.row.Security.{Security}
-use Rattle.lent_rows.specs.declared.row.Holding.{Holding}
-use Rattle.lent_rows.specs.declared.row.AccountHolding.{AccountHolding}
-use Rattle.lent_rows.specs.declared.row.Designation.{Designation}
-use Rattle.lent_rows.specs.Rows.{security_present, holding_present, account_holding_present, designation_present}
+use Rattle.tables.specs.declared.rows.Security.{Security}
+use Rattle.tables.specs.declared.rows.Holding.{Holding}
+use Rattle.tables.specs.declared.rows.AccountHolding.{AccountHolding}
+use Rattle.tables.specs.declared.rows.Designation.{Designation}
+use Rattle.tables.specs.Rows.{security_present, holding_present, account_holding_present, designation_present}
 use Rattle.fields.specs.declared.fault.FieldFault.{FieldFault}
 use Rattle.fields.specs.Faults.{and_then}
 use Rattle.fields.specs.Layout.{opening, closed, letter_in, letters_of, day_letters, width_of}

@@ -5,13 +5,13 @@ use Rattle.rules.specs.declared.letter.Letter.TheVariants as letter
 use Rattle.rules.specs.Buyings.{buying_rules}
 use Rattle.rules.specs.Letters.{letter_rules}
 use Rattle.rules.specs.Prices.{band_percent}
-use Rattle.lent_rows.specs.declared.row.Security.{Security}
-use Rattle.lent_rows.specs.declared.row.Holding.{Holding}
-use Rattle.lent_rows.specs.declared.row.AccountHolding.{AccountHolding}
-use Rattle.lent_rows.specs.declared.row.Designation.{Designation}
+use Rattle.tables.specs.declared.rows.Security.{Security}
+use Rattle.tables.specs.declared.rows.Holding.{Holding}
+use Rattle.tables.specs.declared.rows.AccountHolding.{AccountHolding}
+use Rattle.tables.specs.declared.rows.Designation.{Designation}
 use Rattle.lookup.specs.Lookup.{Rising}
 use Rattle.lookup.specs.Orders.{number_order, pair_order}
-use Rattle.lent_rows.specs.Rows.{security_key, holding_key, account_holding_key, designation_key}
+use Rattle.tables.specs.Rows.{security_key, holding_key, account_holding_key, designation_key}
 use Rattle.fields.specs.Numbers.{Within, written_line}
 use Rattle.dayfile.specs.declared.plan.Counts.{Counts}
 use Rattle.dayfile.specs.declared.plan.Plan.{Plan}

@@ -4,13 +4,13 @@ use Rattle.std.specs.declared.cmp.Ordering.{Ordering}
 use Rattle.rules.specs.declared.letter.Letter.TheVariants as letter
 use Rattle.rules.specs.declared.refusal.Refusal.TheVariants as refusal
 use Rattle.lookup.specs.declared.key.Pair.{Pair}
-use Rattle.lent_rows.specs.declared.row.Security.{Security}
-use Rattle.lent_rows.specs.declared.row.Holding.{Holding}
-use Rattle.lent_rows.specs.declared.row.AccountHolding.{AccountHolding}
-use Rattle.lent_rows.specs.declared.row.Designation.{Designation}
+use Rattle.tables.specs.declared.rows.Security.{Security}
+use Rattle.tables.specs.declared.rows.Holding.{Holding}
+use Rattle.tables.specs.declared.rows.AccountHolding.{AccountHolding}
+use Rattle.tables.specs.declared.rows.Designation.{Designation}
 use Rattle.lookup.specs.Lookup.{is_above}
 use Rattle.lookup.specs.Orders.{number_order, pair_order}
-use Rattle.lent_rows.specs.Rows.{pair}
+use Rattle.tables.specs.Rows.{pair}
 use Rattle.fields.specs.declared.fault.FieldFault.{FieldFault}
 use Rattle.fields.specs.Faults.{and_then}
 use Rattle.dayfile.specs.declared.run.Run.{Run}

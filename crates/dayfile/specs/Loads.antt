@@ -1,10 +1,10 @@
 -- The lent tables before and after a load.
 use Rattle.std.specs.Prelude.{◌≡◌, ℕ, ◌+◌, ◌≤◌, true, List, ◌++◌, length, take, drop, is_ok, IfOk, Ok, Err, Result, MatchResult}
-use Rattle.lent_rows.specs.declared.row.Security.{Security}
-use Rattle.lent_rows.specs.declared.row.Holding.{Holding}
-use Rattle.lent_rows.specs.declared.row.AccountHolding.{AccountHolding}
-use Rattle.lent_rows.specs.declared.row.Designation.{Designation}
-use Rattle.securities.specs.declared.list.SecurityList.{SecurityList}
+use Rattle.tables.specs.declared.rows.Security.{Security}
+use Rattle.tables.specs.declared.rows.Holding.{Holding}
+use Rattle.tables.specs.declared.rows.AccountHolding.{AccountHolding}
+use Rattle.tables.specs.declared.rows.Designation.{Designation}
+use Rattle.tables.specs.declared.security_list.SecurityList.{SecurityList}
 use Rattle.tables.specs.declared.holdings.Holdings.{Holdings}
 use Rattle.tables.specs.declared.account_holdings.AccountHoldings.{AccountHoldings}
 use Rattle.tables.specs.declared.designations.Designations.{Designations}

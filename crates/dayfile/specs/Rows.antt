@@ -5,10 +5,10 @@ use Rattle.rules.specs.declared.refusal.Refusal.TheVariants as refusal
 use Rattle.rules.specs.Buyings.{buying_numbered}
 use Rattle.rules.specs.Letters.{letter_rules}
 use Rattle.rules.specs.Prices.{band_of_percent}
-use Rattle.lent_rows.specs.declared.row.Security.{Security}
-use Rattle.lent_rows.specs.declared.row.Holding.{Holding}
-use Rattle.lent_rows.specs.declared.row.AccountHolding.{AccountHolding}
-use Rattle.lent_rows.specs.declared.row.Designation.{Designation}
+use Rattle.tables.specs.declared.rows.Security.{Security}
+use Rattle.tables.specs.declared.rows.Holding.{Holding}
+use Rattle.tables.specs.declared.rows.AccountHolding.{AccountHolding}
+use Rattle.tables.specs.declared.rows.Designation.{Designation}
 use Rattle.fields.specs.declared.fault.FieldFault.{FieldFault}
 use Rattle.fields.specs.Faults.{and_then}
 use Rattle.fields.specs.Layout.{opening, day_letters}

@@ -4,9 +4,9 @@ ghost use Rattle.dayfile.specs.Groups.{Kind, Lines, following, group, rows_of, s
 
 use fields::fault::{FieldFault, LineFault, beside};
 use fields::line::line_width;
-use lent_rows::table::Table;
 use rules::letter::Letter;
 use rules::refusal::Refusal;
+use tables::table::Table;
 
 // A kind of line whose rows fill a table.
 pub(crate) trait Entry: Copy {

@@ -14,12 +14,11 @@ use super::plan::{
 };
 use super::rows::out_of_group;
 use fields::fault::{DayFault, FieldFault, LineFault, beside, in_part};
-use fields::line::first_byte;
-use lent_rows::row::{AccountHolding, Designation, Holding, Security};
-use lines::day::DayLine;
+use fields::line::{DayLine, first_byte};
 use rules::letter::Part;
 use rules::range::Quantity;
 use rules::refusal::Refusal;
+use tables::rows::{AccountHolding, Designation, Holding, Security};
 
 // What the first line says, which has to be a D line.
 fn opening(line: &[u8]) -> Result<Opening, FieldFault>

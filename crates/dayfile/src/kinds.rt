@@ -7,11 +7,11 @@ use super::group::Entry;
 use super::rows::{account_holding, designation, holding, security};
 use super::run::Run;
 use fields::fault::FieldFault;
-use lent_rows::row::{AccountHolding, Designation, Holding, Security};
 use lookup::key::{Key, Pair};
 use rules::letter::Letter;
 use rules::refusal::Refusal;
 use std::cmp::Ordering;
+use tables::rows::{AccountHolding, Designation, Holding, Security};
 
 // An account may name so many participants.
 const MOST_NAMED: u64 = 20;

@@ -13,11 +13,11 @@ use super::plan::{
 };
 use fields::fault::DayFault;
 use gate::day::{LoadingDay, TradingDay};
-use lent_rows::table::Table;
-use securities::list::SecurityList;
 use tables::account_holdings::AccountHoldings;
 use tables::designations::Designations;
 use tables::holdings::Holdings;
+use tables::security_list::SecurityList;
+use tables::table::Table;
 
 // How many rows each table has room for.
 fn rooms(

@@ -3,12 +3,12 @@ ghost use Rattle.rules.specs.declared.letter.Letter.TheVariants as letter;
 ghost use Rattle.dayfile.specs.Rows.{security_of, holding_of, account_holding_of, designation_of, out_of_place, misplaced, line_of};
 
 use fields::fault::FieldFault;
-use lent_rows::row::{AccountHolding, Designation, Holding, Security};
-use lines::day::DayLine;
+use fields::line::DayLine;
 use rules::buying::Buying;
 use rules::price::PriceBand;
 use rules::range::Quantity;
 use rules::refusal::Refusal;
+use tables::rows::{AccountHolding, Designation, Holding, Security};
 
 // Judges the fields of a line, whatever its kind.
 fn judge(line: &[u8]) -> Result<(), FieldFault>

@@ -1,4 +1,2 @@
-pub mod Days
-pub mod Lines
-pub mod Reached
 pub mod Turns
+pub mod Days

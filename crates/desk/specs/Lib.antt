@@ -1,6 +1,4 @@
 pub mod Printed
 pub mod Events
-pub mod Effects
 pub mod Answered
-pub mod Stops
 pub mod Output

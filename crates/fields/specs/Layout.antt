@@ -1,5 +1,5 @@
 -- How a line lies in the input: a letter, fields of sixteen columns, a line feed.
-use Rattle.std.specs.Prelude.{ℕ, ◌+◌, ◌*◌, Bool, cond, ◌&&◌, List, [], ◌∷◌, length, take, drop, Some, None, Ok, Err, Option, Result, ◌==◌, nat_lt, slice_index}
+use Rattle.std.specs.Prelude.{◌≡◌, ℕ, ◌+◌, ◌*◌, cond, ◌&&◌, List, [], ◌∷◌, length, take, drop, Some, None, Ok, Err, Option, Result, ◌==◌, nat_lt, slice_index}
 use Rattle.rules.specs.declared.refusal.Refusal.TheVariants as refusal
 use Rattle.rules.specs.declared.letter.Letter.{Letter}
 use Rattle.rules.specs.declared.letter.Letter.TheVariants as letter
@@ -8,19 +8,23 @@ use Rattle.rules.specs.declared.letter.Part.TheVariants as part
 use Rattle.rules.specs.Cases.{numbered}
 use Rattle.rules.specs.Letters.{letter_rules}
 use Rattle.fields.specs.declared.fault.FieldFault.{FieldFault}
+use Rattle.fields.specs.declared.field.Field.{Field}
 use Rattle.fields.specs.Faults.{and_then}
 
 -- The sixteen bytes of field j, counted from 0.
 abbrev pub part_of : List ℕ → ℕ → List ℕ
 part_of line j = take 16 (drop (1 + 16 * j) line)
 
--- A line feed stands straight after n fields.
-abbrev pub ends : List ℕ → ℕ → Bool
-ends line n = nat_lt (1 + 16 * n) (length line) && slice_index line (1 + 16 * n) == 10
+-- The field is the line's field j, and names its first column, counted from 1.
+pub record FieldAt (line : List ℕ) (j : ℕ) (f : Field) : Type 0 where
+  pub bytes : f.bytes.now ≡ part_of line j
+  pub column : f.column ≡ 2 + 16 * j
 
 -- A line feed has to stand straight after n fields.
 abbrev pub closing : List ℕ → ℕ → Result (Unit {0}) FieldFault
-closing line n = cond (ends line n) (Ok tt) (Err (record { cause = refusal.Length; column = 1 }))
+closing line n =
+    cond (nat_lt (1 + 16 * n) (length line) && slice_index line (1 + 16 * n) == 10) (Ok tt)
+    (Err (record { cause = refusal.Length; column = 1 }))
 
 -- The bytes that a line of the letter takes.
 abbrev pub width_of : Letter → ℕ
@@ -47,7 +51,7 @@ day_letters = letter.Day ∷ (letter.Security ∷ (letter.Holding ∷ (letter.Ac
 
 -- The letters of the event part.
 abbrev pub event_letters : List Letter
-event_letters = letter.Step ∷ (letter.Notice ∷ (letter.Link ∷ (letter.Buy ∷ (letter.Sell ∷ (letter.Trade ∷ (letter.Return ∷ (letter.Confirm ∷ (letter.Decline ∷ (letter.Cancel ∷ (letter.Close ∷ []))))))))))
+event_letters = letter.Step ∷ (letter.Notice ∷ (letter.Link ∷ []))
 
 -- Each part's letters.
 abbrev pub letters_of : Part → List Letter

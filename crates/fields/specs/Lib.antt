@@ -3,5 +3,6 @@ pub mod Written
 pub mod Scan
 pub mod Reading
 pub mod Layout
+pub mod Lines
 pub mod Numbers
 pub mod Examples

@@ -1,4 +1,1 @@
-pub mod Asked
-pub mod Closings
-pub mod Listing
 pub mod Notices

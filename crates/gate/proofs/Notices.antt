@@ -2,25 +2,22 @@
 use Rattle.std.proofs.Common.{◌≡◌, ℕ, ◌<◌, ◌≤◌, false, List, map, length, get_or, take, set, Some, None, refl, arith}
 use Rattle.std.proofs.lemmas.List.{length-map, length-take-le}
 use Rattle.rules.specs.Notices.{notice_band, unfit_notice}
-use Rattle.lent_rows.specs.declared.row.Security.{Security}
-use Rattle.lent_rows.specs.Rows.{no_security, noticed, security_key}
+use Rattle.tables.specs.declared.rows.Security.{Security}
+use Rattle.tables.specs.Rows.{no_security, noticed, security_key}
 use Rattle.gate.specs.declared.figures.Figures.{Figures}
 use Rattle.gate.specs.Balances.{settled}
-use Rattle.registers.specs.Meaning.{Meaning}
-use Rattle.orders.specs.declared.order.Order.{Order}
-use Rattle.gate.specs.Desks.{desk, listed}
-use Rattle.gate.specs.Calls.{Did, notice}
+use Rattle.gate.specs.Calls.{desk, Did, listed, notice}
 
 -- a place among the keys of the lines is one of the lines
 pub in_lines : (rows : List Security) (count place : ℕ) → count ≤ length rows → place < length (map security_key (take count rows)) → place < count
 in_lines rows count place fits l = omega (arith, l, length-map (take count rows) security_key, length-take-le count rows fits)
 
-same_desk : (f f' : Figures) (l l' : List Security) (p s : Meaning) (book : List Order) → f ≡ f' → l ≡ l' → desk f l p s book ≡ desk f' l' p s book
-same_desk f f' l l' p s book a b = cc
+same_desk : (f f' : Figures) (l l' : List Security) → f ≡ f' → l ≡ l' → desk f l ≡ desk f' l'
+same_desk f f' l l' a b = cc
 
 -- an accepted notice
-pub did_notice : (f f' : Figures) (lines lines' : List Security) (p s : Meaning) (book : List Order) (code foreign total place : ℕ) → Some place ≡ listed lines code → false ≡ unfit_notice foreign total → f' ≡ settled f → lines' ≡ set lines place (noticed (get_or lines place no_security) (notice_band foreign total)) → Did (desk f lines p s book) (notice code foreign total) None (desk f' lines' p s book)
-did_notice f f' lines lines' p s book code foreign total place at fit g l = record {
+pub did_notice : (f f' : Figures) (lines lines' : List Security) (code foreign total place : ℕ) → Some place ≡ listed lines code → false ≡ unfit_notice foreign total → f' ≡ settled f → lines' ≡ set lines place (noticed (get_or lines place no_security) (notice_band foreign total)) → Did (desk f lines) (notice code foreign total) None (desk f' lines')
+did_notice f f' lines lines' code foreign total place at fit g l = record {
   answers = rw (← at, ← fit) refl;
-  becomes = rw (← at, ← fit) (same_desk f' (settled f) lines' (set lines place (noticed (get_or lines place no_security) (notice_band foreign total))) p s book g l);
+  becomes = rw (← at, ← fit) (same_desk f' (settled f) lines' (set lines place (noticed (get_or lines place no_security) (notice_band foreign total))) g l);
 }

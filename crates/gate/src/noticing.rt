@@ -1,17 +1,14 @@
-ghost use Rattle.std.specs.Prelude.{◌≡◌, List, drop};
+ghost use Rattle.std.specs.Prelude.{◌≡◌, drop};
 ghost use Rattle.rules.specs.Rules.{refusal_in};
-ghost use Rattle.securities.specs.Lines.{security_lines};
-ghost use Rattle.registers.specs.Meaning.{Meaning};
-ghost use Rattle.orders.specs.declared.order.Order.{Order as an_order};
-ghost use Rattle.gate.specs.Desks.{desk};
-ghost use Rattle.gate.specs.Calls.{Did};
+ghost use Rattle.tables.specs.Lines.{security_lines};
+ghost use Rattle.gate.specs.Calls.{desk, Did};
 ghost use Rattle.gate.specs.Calls.{notice as a_notice};
 
-use super::balance::settle;
 use super::day::TradingDay;
+use super::stepping::settle;
 use rules::notice::{NoticeBand, is_unfit};
 use rules::refusal::Refusal;
-use securities::list::SecurityList;
+use tables::security_list::SecurityList;
 
 impl TradingDay {
     // A notice of how many shares of a security foreign investors hold, and how many there are in all.
@@ -22,7 +19,7 @@ impl TradingDay {
         foreign: u64,
         total: u64,
     ) -> Result<(), Refusal>
-        ensures did { (p a : Meaning) (book : List an_order) → Did (desk self.old.figures (security_lines list.old) p a book) (a_notice code foreign total) (refusal_in result) (desk self.new.figures (security_lines list.new) p a book) }
+        ensures did { Did (desk self.old.figures (security_lines list.old)) (a_notice code foreign total) (refusal_in result) (desk self.new.figures (security_lines list.new)) }
         ensures counted { list.new.count ≡ list.old.count }
         ensures rest { drop list.new.count list.new.rows.now ≡ drop list.old.count list.old.rows.now }
     {

@@ -1,10 +1,10 @@
 -- Lines of which all may still be sold make a fresh register.
 use Rattle.std.proofs.Common.{◌≡◌, ℕ, zero, suc, Bool, cond, List, [], ◌∷◌, ◌++◌, Some, None}
 use Rattle.std.proofs.lemmas.Bool.{cond_both}
-use Rattle.lent_rows.specs.declared.row.Holding.{Holding}
-use Rattle.lent_rows.specs.declared.row.AccountHolding.{AccountHolding}
-use Rattle.lent_rows.specs.declared.row.Designation.{Designation}
-use Rattle.lent_rows.specs.Rows.{holding_present, account_holding_present}
+use Rattle.tables.specs.declared.rows.Holding.{Holding}
+use Rattle.tables.specs.declared.rows.AccountHolding.{AccountHolding}
+use Rattle.tables.specs.declared.rows.Designation.{Designation}
+use Rattle.tables.specs.Rows.{holding_present, account_holding_present}
 use Rattle.registers.specs.Meaning.{pool_of, FreshPool, Fresh}
 use Rattle.registers.specs.Registers.{participant_meaning, account_meaning, FreshHoldings, FreshAccountHoldings}
 

@@ -8,13 +8,13 @@ use Rattle.std.proofs.lemmas.List.{get_or-set_same, get_or-set_other, get_or_pas
 use Rattle.rules.specs.declared.refusal.Refusal.{Refusal}
 use Rattle.rules.specs.declared.refusal.Refusal.TheVariants.{Account}
 use Rattle.lookup.specs.declared.key.Pair.{Pair}
-use Rattle.lent_rows.specs.declared.row.Holding.{Holding}
-use Rattle.lent_rows.specs.declared.row.AccountHolding.{AccountHolding}
-use Rattle.lent_rows.specs.declared.row.Designation.{Designation}
+use Rattle.tables.specs.declared.rows.Holding.{Holding}
+use Rattle.tables.specs.declared.rows.AccountHolding.{AccountHolding}
+use Rattle.tables.specs.declared.rows.Designation.{Designation}
 use Rattle.lookup.specs.Orders.{pair_order}
 use Rattle.lookup.specs.Lookup.{seek, some_of}
-use Rattle.lent_rows.specs.Rows.{pair, holding_bounds, holding_key, no_holding, with_sellable, account_holding_bounds, account_holding_key, no_account_holding, with_account_sellable, designation_key}
-use Rattle.lent_rows.proofs.Lent.{keys_set}
+use Rattle.tables.specs.Rows.{pair, holding_bounds, holding_key, no_holding, with_sellable, account_holding_bounds, account_holding_key, no_account_holding, with_account_sellable, designation_key}
+use Rattle.tables.proofs.Lent.{keys_set}
 use Rattle.registers.specs.declared.pool.Pool.{Pool}
 use Rattle.registers.specs.Meaning.{Meaning, pool_of, with_pool, drawn, restored, draw_in, restore_in, left_in, again_in}
 use Rattle.registers.specs.Registers.{position, designated, participant_finds, account_finds}

@@ -2,12 +2,12 @@
 use Rattle.std.specs.Prelude.{◌≡◌, ℕ, Bool, cond, ◌||◌, List, [], ◌∷◌, map, Some, None, Ok, Err, Option, Result, ◌==◌, slice_index_or}
 use Rattle.rules.specs.declared.refusal.Refusal.{Refusal}
 use Rattle.rules.specs.declared.refusal.Refusal.TheVariants.{Account, Undesignated, NoPosition}
-use Rattle.lent_rows.specs.declared.row.Holding.{Holding}
-use Rattle.lent_rows.specs.declared.row.AccountHolding.{AccountHolding}
-use Rattle.lent_rows.specs.declared.row.Designation.{Designation}
+use Rattle.tables.specs.declared.rows.Holding.{Holding}
+use Rattle.tables.specs.declared.rows.AccountHolding.{AccountHolding}
+use Rattle.tables.specs.declared.rows.Designation.{Designation}
 use Rattle.lookup.specs.Orders.{pair_order}
 use Rattle.lookup.specs.Lookup.{seek, some_of}
-use Rattle.lent_rows.specs.Rows.{pair, holding_present, holding_key, no_holding, account_holding_present, account_holding_key, no_account_holding, designation_key}
+use Rattle.tables.specs.Rows.{pair, holding_present, holding_key, no_holding, account_holding_present, account_holding_key, no_account_holding, designation_key}
 use Rattle.registers.specs.declared.pool.Pool.{Pool}
 use Rattle.registers.specs.Meaning.{Meaning, pool_of}
 

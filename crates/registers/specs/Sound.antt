@@ -3,10 +3,10 @@ use Rattle.std.specs.Prelude.{ℕ, ◌%◌, Bool, cond, ◌&&◌, List, Some, No
 use Rattle.std.proofs.lemmas.Bool.{cond_both, and_parts, leb-true}
 use Rattle.rules.specs.declared.range.Quantity.TheVariants as quantity
 use Rattle.rules.specs.Ranges.{in_range, range_of}
-use Rattle.lent_rows.specs.declared.row.Holding.{Holding}
-use Rattle.lent_rows.specs.declared.row.AccountHolding.{AccountHolding}
-use Rattle.lent_rows.specs.declared.row.Designation.{Designation}
-use Rattle.lent_rows.specs.Rows.{no_holding, no_account_holding}
+use Rattle.tables.specs.declared.rows.Holding.{Holding}
+use Rattle.tables.specs.declared.rows.AccountHolding.{AccountHolding}
+use Rattle.tables.specs.declared.rows.Designation.{Designation}
+use Rattle.tables.specs.Rows.{no_holding, no_account_holding}
 use Rattle.registers.specs.Meaning.{pool_of, most_shares, SoundPool, Sound}
 use Rattle.registers.specs.Registers.{participant_meaning, account_meaning}
 

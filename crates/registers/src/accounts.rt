@@ -1,15 +1,15 @@
 ghost use Rattle.std.specs.Prelude.{◌≡◌, slice_index_or};
-ghost use Rattle.lent_rows.specs.Rows.{no_account_holding};
+ghost use Rattle.tables.specs.Rows.{no_account_holding};
 ghost use Rattle.tables.specs.Lines.{account_holding_lines, designation_lines};
 ghost use Rattle.registers.specs.Registers.{account_pool, account_meaning};
 ghost use Rattle.registers.specs.Sound.{account_sound};
 
 use super::Register;
 use super::pool::{Pool, again_after, left_after, opening_of, sellable_of};
-use lent_rows::row::AccountHolding;
 use rules::refusal::Refusal;
 use tables::account_holdings::AccountHoldings;
 use tables::designations::Designations;
+use tables::rows::AccountHolding;
 
 // The shares of investors' accounts, which a designated participant may sell.
 #[derive(Drop)]

@@ -1,14 +1,14 @@
 ghost use Rattle.std.specs.Prelude.{◌≡◌, slice_index_or};
-ghost use Rattle.lent_rows.specs.Rows.{no_holding};
+ghost use Rattle.tables.specs.Rows.{no_holding};
 ghost use Rattle.tables.specs.Lines.{holding_lines};
 ghost use Rattle.registers.specs.Registers.{holding_pool, participant_meaning};
 ghost use Rattle.registers.specs.Sound.{participant_sound};
 
 use super::Register;
 use super::pool::{Pool, again_after, left_after, opening_of, sellable_of};
-use lent_rows::row::Holding;
 use rules::refusal::Refusal;
 use tables::holdings::Holdings;
+use tables::rows::Holding;
 
 // The participants' own shares.
 #[derive(Drop)]

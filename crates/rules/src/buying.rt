@@ -1,8 +1,7 @@
 ghost use Rattle.std.specs.Prelude.{◌≡◌};
-ghost use Rattle.rules.specs.Buyings.{buying_rules, buying_numbered, after_notice};
+ghost use Rattle.rules.specs.Buyings.{buying_numbered, after_notice};
 
 use super::notice::NoticeBand;
-use super::refusal::Refusal;
 
 // Whether a security may be bought.
 #[derive(Clone, Copy, PartialEq, Eq, Debug)]
@@ -22,17 +21,6 @@ impl Buying {
             2 => Some(Buying::SellOnly),
             3 => Some(Buying::Suspended),
             _ => None,
-        }
-    }
-
-    // The refusal that a buy gets: none where the security may be bought.
-    pub fn refusal(self) -> Option<Refusal>
-        ensures { result ≡ (buying_rules self).refusal }
-    {
-        match self {
-            Buying::Open => None,
-            Buying::SellOnly => Some(Refusal::SellOnly),
-            Buying::Suspended => Some(Refusal::Suspended),
         }
     }
 

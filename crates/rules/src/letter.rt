@@ -31,14 +31,6 @@ pub enum Letter {
     Step,
     Notice,
     Link,
-    Buy,
-    Sell,
-    Trade,
-    Return,
-    Confirm,
-    Decline,
-    Cancel,
-    Close,
 }
 
 impl Letter {
@@ -56,14 +48,6 @@ impl Letter {
             Letter::Step => b'H',
             Letter::Notice => b'F',
             Letter::Link => b'U',
-            Letter::Buy => b'B',
-            Letter::Sell => b'L',
-            Letter::Trade => b'T',
-            Letter::Return => b'R',
-            Letter::Confirm => b'Y',
-            Letter::Decline => b'N',
-            Letter::Cancel => b'C',
-            Letter::Close => b'Z',
         }
     }
 
@@ -73,16 +57,11 @@ impl Letter {
         ensures few { result ≤ 5 }
     {
         match self {
-            Letter::Step | Letter::Close => 0,
-            Letter::Link | Letter::Return | Letter::Confirm | Letter::Decline => 1,
-            Letter::Designation | Letter::Cancel => 2,
-            Letter::Day
-            | Letter::Holding
-            | Letter::AccountHolding
-            | Letter::Notice
-            | Letter::Trade => 3,
+            Letter::Step => 0,
+            Letter::Link => 1,
+            Letter::Designation => 2,
+            Letter::Day | Letter::Holding | Letter::AccountHolding | Letter::Notice => 3,
             Letter::Security | Letter::End => 4,
-            Letter::Buy | Letter::Sell => 5,
         }
     }
 }

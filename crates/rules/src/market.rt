@@ -1,5 +1,5 @@
 ghost use Rattle.std.specs.Prelude.{◌≡◌};
-ghost use Rattle.rules.specs.Markets.{market_number, market_numbered};
+ghost use Rattle.rules.specs.Markets.{market_numbered};
 
 #[derive(Clone, Copy, PartialEq, Eq, Debug)]
 pub enum Market {
@@ -8,16 +8,6 @@ pub enum Market {
 }
 
 impl Market {
-    // The number by which a market is shown.
-    pub fn number(self) -> u64
-        ensures { result ≡ market_number self }
-    {
-        match self {
-            Market::Shanghai => 1,
-            Market::Shenzhen => 2,
-        }
-    }
-
     // The market of a number, if it is one's.
     pub fn numbered(n: u64) -> Option<Market>
         ensures { result ≡ market_numbered n }

@@ -34,27 +34,4 @@ impl Phase {
             Phase::AfterHours => None,
         }
     }
-
-    // Whether orders are taken in this phase.
-    pub fn takes_orders(self) -> bool
-        ensures { result ≡ (phase_rules self).orders }
-    {
-        match self {
-            Phase::OpeningCall
-            | Phase::OpeningCallNoCancel
-            | Phase::Continuous
-            | Phase::ClosingCall => true,
-            Phase::AfterHours => false,
-        }
-    }
-
-    // Whether a cancel may be asked in this phase.
-    pub fn cancels(self) -> bool
-        ensures { result ≡ (phase_rules self).cancels }
-    {
-        match self {
-            Phase::OpeningCall | Phase::Continuous => true,
-            Phase::OpeningCallNoCancel | Phase::ClosingCall | Phase::AfterHours => false,
-        }
-    }
 }

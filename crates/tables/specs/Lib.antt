@@ -1,1 +1,3 @@
+pub mod Rows
+pub mod Tables
 pub mod Lines

@@ -1,9 +1,9 @@
 ghost use Rattle.std.specs.Prelude.{◌≡◌, ◌≤◌, length, take};
 ghost use Rattle.lookup.specs.Orders.{pair_order};
 ghost use Rattle.lookup.specs.Lookup.{rise};
-ghost use Rattle.lent_rows.specs.Rows.{designation_key};
+ghost use Rattle.tables.specs.Rows.{designation_key};
 
-use lent_rows::row::Designation;
+use super::rows::Designation;
 
 pub mod lines;
 

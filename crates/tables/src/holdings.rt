@@ -1,9 +1,9 @@
 ghost use Rattle.std.specs.Prelude.{◌≡◌, ◌≤◌, length, take};
 ghost use Rattle.lookup.specs.Orders.{pair_order};
 ghost use Rattle.lookup.specs.Lookup.{rise};
-ghost use Rattle.lent_rows.specs.Rows.{holding_key};
+ghost use Rattle.tables.specs.Rows.{holding_key};
 
-use lent_rows::row::Holding;
+use super::rows::Holding;
 
 pub mod lines;
 

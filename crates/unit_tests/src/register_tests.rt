@@ -1,4 +1,3 @@
-use lent_rows::row::{AccountHolding, Designation, Holding};
 use registers::Register;
 use registers::accounts::AccountRegister;
 use registers::participants::ParticipantRegister;
@@ -7,6 +6,7 @@ use std::test::Fail;
 use tables::account_holdings::AccountHoldings;
 use tables::designations::Designations;
 use tables::holdings::Holdings;
+use tables::rows::{AccountHolding, Designation, Holding};
 
 fn holding(participant: u64, sellable: u64) -> Holding {
     Holding {

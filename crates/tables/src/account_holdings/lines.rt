@@ -2,12 +2,12 @@ ghost use Rattle.std.specs.Prelude.{◌≡◌, min, ◌&&◌, [], ◌∷◌, ◌
 ghost use Rattle.std.specs.List.{slice_get};
 ghost use Rattle.lookup.specs.Orders.{pair_order};
 ghost use Rattle.lookup.specs.Lookup.{seek, Found, rise, some_of};
-ghost use Rattle.lent_rows.specs.Rows.{pair, account_holding_key, account_holding_present, no_account_holding, with_account_sellable};
+ghost use Rattle.tables.specs.Rows.{pair, account_holding_key, account_holding_present, no_account_holding, with_account_sellable};
 ghost use Rattle.tables.specs.Lines.{account_holding_lines};
 
 use super::AccountHoldings;
-use lent_rows::row::AccountHolding;
-use lent_rows::table::{Table, row_at};
+use crate::rows::AccountHolding;
+use crate::table::{Table, row_at};
 use lookup::key::Pair;
 use lookup::search::{holds, look, rises, rises_with};
 use rules::refusal::Refusal;

@@ -1,12 +1,12 @@
 ghost use Rattle.std.specs.Prelude.{◌≡◌, min, [], ◌∷◌, ◌++◌, map, length};
 ghost use Rattle.lookup.specs.Orders.{pair_order};
 ghost use Rattle.lookup.specs.Lookup.{seek, Found, rise, some_of};
-ghost use Rattle.lent_rows.specs.Rows.{pair, designation_key};
+ghost use Rattle.tables.specs.Rows.{pair, designation_key};
 ghost use Rattle.tables.specs.Lines.{designation_lines};
 
 use super::Designations;
-use lent_rows::row::Designation;
-use lent_rows::table::Table;
+use crate::rows::Designation;
+use crate::table::Table;
 use lookup::key::Pair;
 use lookup::search::{holds, look, rises, rises_with};
 use rules::refusal::Refusal;

@@ -2,12 +2,12 @@ ghost use Rattle.std.specs.Prelude.{◌≡◌, min, ◌&&◌, [], ◌∷◌, ◌
 ghost use Rattle.std.specs.List.{slice_get};
 ghost use Rattle.lookup.specs.Orders.{pair_order};
 ghost use Rattle.lookup.specs.Lookup.{seek, Found, rise};
-ghost use Rattle.lent_rows.specs.Rows.{pair, holding_key, holding_present, no_holding, with_sellable};
+ghost use Rattle.tables.specs.Rows.{pair, holding_key, holding_present, no_holding, with_sellable};
 ghost use Rattle.tables.specs.Lines.{holding_lines};
 
 use super::Holdings;
-use lent_rows::row::Holding;
-use lent_rows::table::{Table, row_at};
+use crate::rows::Holding;
+use crate::table::{Table, row_at};
 use lookup::key::Pair;
 use lookup::search::{look, rises, rises_with};
 use rules::refusal::Refusal;

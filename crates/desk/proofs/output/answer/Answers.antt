@@ -1,4 +1,3 @@
-use Rattle.std.proofs.Common.{length}
 use Rattle.dayfile.specs.Loads.{tables_of}
 use Rattle.desk.specs.Printed.{shown_fault}
 use Rattle.desk.proofs.Days.{day_answered, day_refused}
@@ -14,7 +13,7 @@ returns-in-Ok c =
       day_answered c.args.input.now
           (tables_of c.args.list.now c.args.holdings.now c.args.account_holdings.now c.args.designations.now)
           (tables_of c.load.new.list c.load.new.holdings c.load.new.account_holdings c.load.new.designations)
-          c.in-Ok.loaded c.args.book.now done.0 c.in-Ok.ensures done.2,
+          c.in-Ok.loaded done.0 c.in-Ok.ensures done.2,
     ))
     c.answer_loaded.ensures
 
@@ -27,6 +26,6 @@ returns-in-Err c =
       day_refused c.args.input.now
           (tables_of c.args.list.now c.args.holdings.now c.args.account_holdings.now c.args.designations.now)
           (tables_of c.load.new.list c.load.new.holdings c.load.new.account_holdings c.load.new.designations)
-          c.in-Err.back.0 c.in-Err.back.1 (length c.args.book.now) c.in-Err.ensures,
+          c.in-Err.back.0 c.in-Err.back.1 c.in-Err.ensures,
     ))
     c.put_fault.ensures

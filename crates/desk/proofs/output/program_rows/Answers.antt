@@ -9,6 +9,3 @@ returns-in_err-account_holdings c = let p = err_from_is_err_and c.from_residual-
 
 pub returns-in_err-designations : goal.returns-in_err-designations
 returns-in_err-designations c = let p = err_from_is_err_and c.from_residual-in_err-designations.result c.from_residual-in_err-designations.ensures.1 in rw p.1 tt
-
-pub returns-in_err-book : goal.returns-in_err-book
-returns-in_err-book c = let p = err_from_is_err_and c.from_residual-in_err-book.result c.from_residual-in_err-book.ensures.1 in rw p.1 tt

@@ -1,7 +1,7 @@
 use Rattle.std.proofs.Common.{◌≡◌, ◌<◌, true, cond, get_or, take, drop, set, ap, ◌∙◌}
 use Rattle.std.proofs.lemmas.List.{drop-set-lt}
 use Rattle.std.proofs.lemmas.Bool.{lt-ltb}
-use Rattle.lent_rows.specs.Rows.{no_security, noticed}
+use Rattle.tables.specs.Rows.{no_security, noticed}
 use Rattle.gate.proofs.Notices.{in_lines, did_notice}
 use Rattle.gate.proofs.day.TradingDay.notice.Goals as goal
 
@@ -15,7 +15,7 @@ returns c =
     let done : c.note.result ≡ true = c.note.ensures.done ∙ lt-ltb place count lt in
     let wrote = c.note.ensures.wrote ∙ ap (λ b. cond b (set rows place (noticed (get_or rows place no_security) c.of.result)) rows) done in
     record {
-      did = λ p s book. did_notice c.args.self.now.figures c.settle-self.result lines (take c.note.new.self.count c.note.new.self.rows.now) p s book c.args.code c.args.foreign c.args.total place
+      did = did_notice c.args.self.now.figures c.settle-self.result lines (take c.note.new.self.count c.note.new.self.rows.now) c.args.code c.args.foreign c.args.total place
           c.in-Some.ensures.is c.if-is_unfit.ensures c.settle-self.ensures.value
           (c.note.ensures.lines ∙ ap (λ b. cond b (set lines place (noticed (get_or lines place no_security) c.of.result)) lines) done ∙ ap (λ b. set lines place (noticed (get_or lines place no_security) b)) c.of.ensures);
       counted = c.note.ensures.counted;

@@ -1,5 +1,5 @@
 use Rattle.std.proofs.Common.{refl, ◌∙◌}
-use Rattle.lent_rows.specs.Rows.{no_account_holding}
+use Rattle.tables.specs.Rows.{no_account_holding}
 use Rattle.tables.specs.Lines.{account_holding_lines}
 use Rattle.registers.specs.Registers.{account_pool}
 use Rattle.registers.proofs.Pools.{line_pool, no_pool}

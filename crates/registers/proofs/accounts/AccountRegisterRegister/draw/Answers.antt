@@ -1,5 +1,5 @@
 use Rattle.std.proofs.Common.{get_or, ap, ◌∙◌}
-use Rattle.lent_rows.specs.Rows.{no_account_holding}
+use Rattle.tables.specs.Rows.{no_account_holding}
 use Rattle.tables.specs.Lines.{account_holding_lines, designation_lines}
 use Rattle.registers.specs.Meaning.{left_in}
 use Rattle.registers.specs.Registers.{account_pool, account_finds}

@@ -1,5 +1,5 @@
 use Rattle.std.proofs.Common.{refl, ◌∙◌}
-use Rattle.lent_rows.specs.Rows.{no_holding}
+use Rattle.tables.specs.Rows.{no_holding}
 use Rattle.tables.specs.Lines.{holding_lines}
 use Rattle.registers.specs.Registers.{holding_pool}
 use Rattle.registers.proofs.Pools.{line_pool, no_pool}

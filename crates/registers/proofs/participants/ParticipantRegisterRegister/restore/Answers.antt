@@ -1,5 +1,5 @@
 use Rattle.std.proofs.Common.{get_or, ap, ◌∙◌}
-use Rattle.lent_rows.specs.Rows.{no_holding}
+use Rattle.tables.specs.Rows.{no_holding}
 use Rattle.tables.specs.Lines.{holding_lines}
 use Rattle.registers.specs.Meaning.{again_in}
 use Rattle.registers.specs.Registers.{holding_pool, participant_finds}

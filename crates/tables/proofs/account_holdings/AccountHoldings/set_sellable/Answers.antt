@@ -1,7 +1,7 @@
 use Rattle.std.proofs.Common.{get_or, sym, refl}
 use Rattle.lookup.specs.Orders.{pair_order}
-use Rattle.lent_rows.specs.Rows.{pair, account_holding_key, account_holding_bounds, account_holding_present, no_account_holding, with_account_sellable}
-use Rattle.lent_rows.proofs.Lent.{kept, wrote, resold_key, past_lines, absent_line, above_opening, fit_line}
+use Rattle.tables.specs.Rows.{pair, account_holding_key, account_holding_bounds, account_holding_present, no_account_holding, with_account_sellable}
+use Rattle.tables.proofs.Lent.{kept, wrote, resold_key, past_lines, absent_line, above_opening, fit_line}
 use Rattle.tables.proofs.account_holdings.AccountHoldings.set_sellable.Goals as goal
 
 pub returns-then-place-self : goal.returns-then-place-self

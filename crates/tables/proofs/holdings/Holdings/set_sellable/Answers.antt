@@ -1,7 +1,7 @@
 use Rattle.std.proofs.Common.{get_or, sym, refl}
 use Rattle.lookup.specs.Orders.{pair_order}
-use Rattle.lent_rows.specs.Rows.{pair, holding_key, holding_bounds, holding_present, no_holding, with_sellable}
-use Rattle.lent_rows.proofs.Lent.{kept, wrote, resold_key, past_lines, absent_line, above_opening, fit_line}
+use Rattle.tables.specs.Rows.{pair, holding_key, holding_bounds, holding_present, no_holding, with_sellable}
+use Rattle.tables.proofs.Lent.{kept, wrote, resold_key, past_lines, absent_line, above_opening, fit_line}
 use Rattle.tables.proofs.holdings.Holdings.set_sellable.Goals as goal
 
 pub returns-then-place-self : goal.returns-then-place-self

@@ -1,8 +1,8 @@
 use Rattle.std.proofs.Common.{refl, rules}
 use Rattle.std.proofs.lemmas.List.{take_more_set, length-set}
 use Rattle.lookup.specs.Orders.{pair_order}
-use Rattle.lent_rows.specs.Rows.{holding_key}
-use Rattle.lent_rows.proofs.Lent.{pushed}
+use Rattle.tables.specs.Rows.{holding_key}
+use Rattle.tables.proofs.Lent.{pushed}
 use Rattle.tables.proofs.holdings.lines.HoldingsTable.push.Goals as goal
 
 pub invariant_of-self : goal.invariant_of-self
