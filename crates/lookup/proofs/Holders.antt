@@ -1,8 +1,8 @@
 -- Whether some row has a number as the first of its key.
-use Rattle.std.proofs.Common.{◌≡◌, ℕ, zero, suc, ◌+◌, ◌<◌, ◌≤◌, Bool, true, false, ◌||◌, List, [], ◌∷◌, map, length, get_or, drop, Some, None, Option, Less, sym, refl, ap, ◌∙◌, ⊎_elim, arith}
+use Rattle.std.proofs.Common.{◌≡◌, ℕ, zero, suc, ◌<◌, ◌≤◌, Bool, true, false, ◌||◌, List, [], ◌∷◌, map, length, get_or, Some, None, Option, Less, sym, refl, ap, ◌∙◌, ⊎_elim, arith}
 use Rattle.std.proofs.lemmas.Bool.{or_left, or_right, cases_eq, cases_lt}
 use Rattle.std.proofs.lemmas.Bool.Decides.{nat_tests}
-use Rattle.std.proofs.lemmas.List.{at_drop_more, at_drop_all}
+use Rattle.std.specs.List.{list_any}
 use Rattle.lookup.specs.declared.key.Pair.{Pair}
 use Rattle.lookup.specs.Orders.{TotalOrder, pair_order}
 use Rattle.lookup.specs.Lookup.{is_before, rise_from, Rising, is_of, some_of}
@@ -61,22 +61,7 @@ tell n ks i false e r l b u =
 pub told : (n : ℕ) (ks : List (Option Pair)) (i : ℕ) → rise_from pair_order None ks ≡ true → i < length ks → ((j : ℕ) → j < i → is_before pair_order (least n) (get_or ks j None) ≡ true) → is_before pair_order (least n) (get_or ks i None) ≡ false → is_of n (get_or ks i None) ≡ some_of n ks
 told n ks i r l b u = sym (tell n ks i (is_of n (get_or ks i None)) refl (rising_means pair_order pairs_total ks r) l b u)
 
--- the walk's turns
-module _ {X : Type 0} (named : X → Option Pair) (n : ℕ) (rows : List X) where
-  abbrev left : ℕ → Bool
-  left i = some_of n (map named (drop i rows))
-
-  turn : (i : ℕ) (x : X) (b : Bool) → i < length rows → x ≡ get_or rows i x → b ≡ is_of n (named x) → left i ≡ (b || left (i + 1))
-  turn i x b l e t =
-      at_drop_more (λ r. some_of n (map named r)) rows i x l
-      ∙ ap (λ y. is_of n (named y) || left (i + 1)) (sym e)
-      ∙ ap (λ y. y || left (i + 1)) (sym t)
-
-  pub on_hit : (i : ℕ) (x : X) → i < length rows → x ≡ get_or rows i x → true ≡ is_of n (named x) → left i ≡ true
-  on_hit i x l e t = turn i x true l e t
-
-  pub on_miss : (i : ℕ) (x : X) → i < length rows → x ≡ get_or rows i x → false ≡ is_of n (named x) → left i ≡ left (i + 1)
-  on_miss i x l e t = turn i x false l e t
-
-  pub on_end : (i : ℕ) → length rows ≤ i → left i ≡ false
-  on_end i h = at_drop_all (λ r. some_of n (map named r)) rows i h
+-- what a walk finds
+pub any_of : {X : Type 0} (named : X → Option Pair) (n : ℕ) (rows : List X) → list_any (λ x. is_of n (named x)) rows ≡ some_of n (map named rows)
+any_of named n [] = refl
+any_of named n (x ∷ rows) = ap (λ b. is_of n (named x) || b) (any_of named n rows)

@@ -3,15 +3,17 @@ use Rattle.std.proofs.Common.{◌≡◌, ℕ, zero, suc, ◌+◌, ◌-◌, ◌<�
 use mathlib.Core.Bool.{and-true}
 use Rattle.std.proofs.lemmas.Bool.{and_parts, and_left, and_right, and_cases, cases_eq}
 use Rattle.std.proofs.lemmas.List.{at_drop_more, at_drop_all, get_or-map, length-map, map_push}
-use Rattle.lookup.specs.Orders.{TotalOrder, is_less, is_equal}
-use Rattle.lookup.specs.Lookup.{seek, Held, is_before, is_at, is_above, rise_from, rise, Rising}
+use Rattle.std.specs.Ordering.{is_lt, is_eq}
+use Rattle.std.specs.List.Sorted.{IsPartitionedBy, IsPartitionPoint}
+use Rattle.lookup.specs.Orders.{TotalOrder}
+use Rattle.lookup.specs.Lookup.{seek, is_before, is_at, is_above, rise_from, rise, Rising}
 
-less_is : (o : Ordering) → is_less o ≡ true → o ≡ Less
+less_is : (o : Ordering) → is_lt o ≡ true → o ≡ Less
 less_is Less e = refl
 less_is Equal e = absurd (let y : ◌≡◌ {A = ℕ} 0 1 = cc in omega arith)
 less_is Greater e = absurd (let y : ◌≡◌ {A = ℕ} 0 1 = cc in omega arith)
 
-equal_is : (o : Ordering) → is_equal o ≡ true → o ≡ Equal
+equal_is : (o : Ordering) → is_eq o ≡ true → o ≡ Equal
 equal_is Less e = absurd (let y : ◌≡◌ {A = ℕ} 0 1 = cc in omega arith)
 equal_is Equal e = refl
 equal_is Greater e = absurd (let y : ◌≡◌ {A = ℕ} 0 1 = cc in omega arith)
@@ -28,7 +30,7 @@ module _ {K : Type 0} (order : K → K → Ordering) (total : TotalOrder order) 
       let q : k ≡ b = cc in
       subst (λ (x : K). order l x ≡ Less) q (less_is (order l k) (and_parts _ _ h).0)
   over l (Some k ∷ ks) h (suc j) b e =
-      total.through l k b (less_is (order l k) (and_parts _ _ h).0) (over k ks (and_parts (is_less (order l k)) _ h).1 j b e)
+      total.through l k b (less_is (order l k) (and_parts _ _ h).0) (over k ks (and_parts (is_lt (order l k)) _ h).1 j b e)
 
   up_from : (last : Option K) (ks : List (Option K)) → rise_from order last ks ≡ true → (i j : ℕ) (a b : K) → i < j → get_or ks i None ≡ Some a → get_or ks j None ≡ Some b → order a b ≡ Less
   up_from last [] h i j a b l e f = absurd (let y : ◌≡◌ {A = ℕ} 0 1 = cc in omega arith)
@@ -61,7 +63,7 @@ module _ {K : Type 0} (order : K → K → Ordering) (total : TotalOrder order) 
       let e : None ≡ Some p.0 = p.1 in
       absurd (let y : ◌≡◌ {A = ℕ} 0 1 = cc in omega arith)
   from_words last (Some k ∷ ks) u r =
-      rw (u k refl) (from_words (Some k) ks (λ m e. ap is_less (r.up 0 1 k m (omega arith) refl e)) (tail (Some k) ks r))
+      rw (u k refl) (from_words (Some k) ks (λ m e. ap is_lt (r.up 0 1 k m (omega arith) refl e)) (tail (Some k) ks r))
 
   pub words_mean : (ks : List (Option K)) → Rising order ks → rise_from order None ks ≡ true
   words_mean ks r = from_words None ks (λ k e. refl) r
@@ -75,8 +77,15 @@ module _ {K : Type 0} (order : K → K → Ordering) (total : TotalOrder order) 
         let less : order p.0 key ≡ Less = less_is (order p.0 key) (sym (ap (is_before order key) p.1) ∙ t) in
         ap (is_before order key) q.1 ∙ ⊎_elim
         (λ (e : j ≡ m). sym (ap (is_before order key) q.1) ∙ ap (λ n. is_before order key (get_or ks n None)) e ∙ t)
-        (λ (e : j ≡ m → ⊥). ap is_less (total.through q.0 p.0 key (up_from None ks h j m q.0 p.0 (omega (arith, e)) q.1 p.1) less))
+        (λ (e : j ≡ m → ⊥). ap is_lt (total.through q.0 p.0 key (up_from None ks h j m q.0 p.0 (omega (arith, e)) q.1 p.1) less))
         (cases_eq j m)
+
+    -- rows that rise are parted by whether they are before the key
+    pub parted : {X : Type 0} (named : X → Option K) (rows : List X) → rise order named rows ≡ true → IsPartitionedBy (λ x. is_before order key (named x)) rows
+    parted named rows up i j d h l t =
+        let at = λ (n : ℕ) (m : n < length rows). get_or-map named rows n d None m in
+        sym (ap (is_before order key) (at i (omega (arith, h, l))))
+        ∙ all_before (map named rows) j up (omega (arith, l, length-map rows named)) (ap (is_before order key) (at j l) ∙ t) i (omega (arith, h))
 
     step : (s : ℕ) (o : Option K) (ks : List (Option K)) → is_before order key o ≡ true → seek order s (o ∷ ks) key ≡ seek order (s + 1) ks key
     step s None ks b = refl
@@ -93,6 +102,14 @@ module _ {K : Type 0} (order : K → K → Ordering) (total : TotalOrder order) 
     abbrev Cut : List (Option K) → ℕ → Type 0
     Cut ks i = (j : ℕ) → j < i → is_before order key (get_or ks j None) ≡ true
 
+    -- the keys of the rows on both sides of the place that parts them
+    pub parts : {X : Type 0} (named : X → Option K) (rows : List X) (i : ℕ) → i ≤ length rows → IsPartitionPoint (λ x. is_before order key (named x) ≡ true) (λ x. is_before order key (named x) ≡ false) rows i → Cut (map named rows) i × (i < length rows → is_before order key (get_or (map named rows) i None) ≡ false)
+    parts named [] i l p = (λ j h. absurd (omega (arith, h, l)), λ h. absurd (omega (arith, h)))
+    parts named (y ∷ ys) i l p = (
+      λ j h. ap (is_before order key) (get_or-map named (y ∷ ys) j y None (omega (arith, h, l))) ∙ p.0 j y (omega arith) h,
+      λ h. ap (is_before order key) (get_or-map named (y ∷ ys) i y None h) ∙ p.1 i y (omega arith) h,
+    )
+
     cut : (ks : List (Option K)) (i : ℕ) → i ≤ length ks → Cut ks i → seek order 0 ks key ≡ seek order i (drop i ks) key
     cut ks i l b = skip 0 i ks l b ∙ ap (λ n. seek order n (drop i ks) key) (omega arith)
 
@@ -103,7 +120,7 @@ module _ {K : Type 0} (order : K → K → Ordering) (total : TotalOrder order) 
     hit None i ks e = absurd (let y : ◌≡◌ {A = ℕ} 0 1 = cc in omega arith)
     hit (Some k) i ks e = ap (pick i (seek order (i + 1) ks key)) (equal_is (order k key) e)
 
-    miss_by : (o : Ordering) (i : ℕ) (r : Option ℕ) → is_less o ≡ false → is_equal o ≡ false → pick i r o ≡ None
+    miss_by : (o : Ordering) (i : ℕ) (r : Option ℕ) → is_lt o ≡ false → is_eq o ≡ false → pick i r o ≡ None
     miss_by Less i r b e = absurd (let y : ◌≡◌ {A = ℕ} 0 1 = cc in omega arith)
     miss_by Equal i r b e = absurd (let y : ◌≡◌ {A = ℕ} 0 1 = cc in omega arith)
     miss_by Greater i r b e = refl
@@ -119,14 +136,6 @@ module _ {K : Type 0} (order : K → K → Ordering) (total : TotalOrder order) 
         let p = present_from None ks h i l in
         at ks i l b ∙ ap (λ o. seek order i (o ∷ drop (i + 1) ks) key) p.1
         ∙ miss p.0 i (drop (i + 1) ks) (sym (ap (is_before order key) p.1) ∙ f) (sym (ap (is_at order key) p.1) ∙ e)
-
-    -- a row at the key has it
-    pub has_key : (ks : List (Option K)) (i : ℕ) → i < length ks → is_at order key (get_or ks i None) ≡ true → Held ks key (Some i)
-    has_key ks i l e = (l, named_at (get_or ks i None) e)
-      where
-        named_at : (o : Option K) → is_at order key o ≡ true → o ≡ Some key
-        named_at None f = absurd (let y : ◌≡◌ {A = ℕ} 0 1 = cc in omega arith)
-        named_at (Some k) f = ap Some (total.same k key (equal_is (order k key) f))
 
     pub none_past : (ks : List (Option K)) (i : ℕ) → i ≤ length ks → length ks ≤ i → Cut ks i → seek order 0 ks key ≡ None
     none_past ks i l m b = cut ks i l b ∙ at_drop_all (λ r. seek order i r key) ks i m
@@ -208,9 +217,6 @@ module _ {K : Type 0} (order : K → K → Ordering) where
 
     some_more : (k : K) → rise order named rows ≡ true → Some k ≡ named x → rise order named (rows ++ x ∷ []) ≡ is_above order (get_or (None ∷ map named rows) (length (map named rows)) None) k
     some_more k h e = keys_push ∙ ap (λ o. rise_from order None (map named rows ++ o ∷ [])) (sym e) ∙ some_push None (map named rows) k h
-
-    pub more_first : (k : K) → rise order named rows ≡ true → length rows ≡ 0 → Some k ≡ named x → rise order named (rows ++ x ∷ []) ≡ true
-    more_first k h l e = some_more k h e ∙ ap (λ n. is_above order (get_or (None ∷ map named rows) n None) k) (length-map rows named ∙ l)
 
     pub more_next : (k : K) (y : X) → rise order named rows ≡ true → 0 < length rows → y ≡ get_or rows (length rows - 1) y → Some k ≡ named x → rise order named (rows ++ x ∷ []) ≡ is_above order (named y) k
     more_next k y h l f e =

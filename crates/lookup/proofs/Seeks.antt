@@ -2,7 +2,7 @@
 use Rattle.std.proofs.Common.{◌≡◌, ℕ, zero, suc, ◌+◌, ◌<◌, ◌≤◌, List, [], ◌∷◌, map, length, get_or, drop, Some, None, Option, Ordering, Less, Equal, Greater, sym, refl, ap, ◌∙◌, subst, arith}
 use Rattle.std.proofs.lemmas.List.{at_drop_more, at_drop_all}
 use Rattle.lookup.specs.Orders.{TotalOrder}
-use Rattle.lookup.specs.Lookup.{seek, Passed, Found, Held}
+use Rattle.lookup.specs.Lookup.{seek, Passed, Found}
 
 module _ {X K : Type 0} (named : X → Option K) (order : K → K → Ordering) (rows : List X) (key : K) where
   abbrev left : ℕ → Option ℕ
@@ -93,8 +93,3 @@ module _ {K : Type 0} (order : K → K → Ordering) (total : TotalOrder order) 
 
   pub finds : (ks : List (Option K)) → Found order ks key (seek order 0 ks key)
   finds ks = from_off ks (seek order 0 ks key) (off 0 ks)
-
--- what is found is a row of the key
-pub found_held : {K : Type 0} (order : K → K → Ordering) (ks : List (Option K)) (key : K) (r : Option ℕ) → Found order ks key r → Held ks key r
-found_held order ks key (Some i) f = (f.0, f.1)
-found_held order ks key None f = tt

@@ -1,9 +1,10 @@
 -- Looking a key up among the keys of a table's rows, where an absent row has none.
-use Rattle.std.specs.Prelude.{◌≡◌, ℕ, ◌+◌, ◌<◌, Bool, true, false, ◌&&◌, ◌||◌, List, [], ◌∷◌, map, length, Some, None, Option, ◌==◌, slice_index_or}
+use Rattle.std.specs.Prelude.{◌≡◌, ℕ, ◌+◌, ◌<◌, Bool, true, false, ◌&&◌, List, [], ◌∷◌, map, length, Some, None, Option, ◌==◌, slice_index_or}
 use Rattle.std.specs.declared.cmp.Ordering.TheVariants.{Less, Equal, Greater}
 use Rattle.std.specs.declared.cmp.Ordering.{Ordering}
 use Rattle.lookup.specs.declared.key.Pair.{Pair}
-use Rattle.lookup.specs.Orders.{is_less, is_equal}
+use Rattle.std.specs.List.{list_any}
+use Rattle.std.specs.Ordering.{is_lt, is_eq}
 
 -- The place, counted from i, of the first present key that is not before the one sought, if it is the same.
 abbrev pub seek : {K : Type 0} → (K → K → Ordering) → ℕ → List (Option K) → K → Option ℕ
@@ -21,25 +22,20 @@ abbrev pub Found : {K : Type 0} → (K → K → Ordering) → List (Option K) �
 Found order ks sought (Some i) = (i < length ks) × (slice_index_or ks i None ≡ Some sought) × ((j : ℕ) → j < i → Passed order sought (slice_index_or ks j None))
 Found {K} order ks sought None = (i : ℕ) → i < length ks → slice_index_or ks i None ≡ Some sought → (j : ℕ) × (k : K) × (j < i) × (slice_index_or ks j None ≡ Some k) × (order k sought ≡ Greater)
 
--- A place that is found is a row's, and that row has the key.
-abbrev pub Held : {K : Type 0} → List (Option K) → K → Option ℕ → Type 0
-Held ks sought (Some i) = (i < length ks) × (slice_index_or ks i None ≡ Some sought)
-Held ks sought None = Unit {0}
-
 -- The row is present and before the key.
 abbrev pub is_before : {K : Type 0} → (K → K → Ordering) → K → Option K → Bool
 is_before order sought None = false
-is_before order sought (Some k) = is_less (order k sought)
+is_before order sought (Some k) = is_lt (order k sought)
 
 -- The row is present and has the key.
 abbrev pub is_at : {K : Type 0} → (K → K → Ordering) → K → Option K → Bool
 is_at order sought None = false
-is_at order sought (Some k) = is_equal (order k sought)
+is_at order sought (Some k) = is_eq (order k sought)
 
 -- The key is above the last one, if there is a last one.
 abbrev pub is_above : {K : Type 0} → (K → K → Ordering) → Option K → K → Bool
 is_above order None k = true
-is_above order (Some last) k = is_less (order last k)
+is_above order (Some last) k = is_lt (order last k)
 
 -- Every row is present, and each key is above the one before it.
 abbrev pub rise_from : {K : Type 0} → (K → K → Ordering) → Option K → List (Option K) → Bool
@@ -63,5 +59,4 @@ is_of n (Some p) = p.first == n
 
 -- Some row is present whose key has n as its first number.
 abbrev pub some_of : ℕ → List (Option Pair) → Bool
-some_of n [] = false
-some_of n (k ∷ ks) = is_of n k || some_of n ks
+some_of n = list_any (is_of n)

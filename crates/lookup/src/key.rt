@@ -1,30 +1,15 @@
 ghost use Rattle.std.specs.Prelude.{◌≡◌, Option as Maybe};
-ghost use Rattle.std.specs.declared.cmp.Ordering.{Ordering as Order};
-ghost use Rattle.lookup.specs.Orders.{TotalOrder, number_order, pair_order};
+ghost use Rattle.lookup.specs.Orders.{TotalOrder};
 ghost use Rattle.std.proofs.Common.{rules};
 
-use std::cmp::Ordering;
-
-// A key of two numbers.
-#[derive(Clone, Copy)]
-pub struct Pair {
-    pub first: u64,
-    pub second: u64,
-}
-
-// A kind of key, with its total order.
-pub trait Key {
-    ghost order: { Self → Self → Order };
-
-    fn compare(&self, other: &Self) -> Ordering
-        ensures { result ≡ order self.now other.now };
-
-    ghost total: { TotalOrder order };
+// A kind of key, which its order tells apart.
+pub trait Key: Ord + Copy {
+    ghost total: { TotalOrder Self.cmp };
 }
 
 // A row of a table, which has a key, or none where the row is absent.
 pub trait Row {
-    type Key: Key + Copy;
+    type Key: Key;
 
     ghost named: { Self → Maybe Self.Key };
 
@@ -32,26 +17,17 @@ pub trait Row {
         ensures { result ≡ named self.now };
 }
 
+// A key of two numbers, ordered by the first and then by the second.
+#[derive(Clone, Copy, PartialEq, Eq, PartialOrd, Ord, Debug)]
+pub struct Pair {
+    pub first: u64,
+    pub second: u64,
+}
+
 impl Key for u64 {
-    ghost order = { number_order };
-
     ghost total = { Prim.search rules };
-
-    fn compare(&self, other: &u64) -> Ordering {
-        self.cmp(other)
-    }
 }
 
 impl Key for Pair {
-    ghost order = { pair_order };
-
     ghost total = { Prim.search rules };
-
-    fn compare(&self, other: &Pair) -> Ordering {
-        match self.first.cmp(&other.first) {
-            Ordering::Less => Ordering::Less,
-            Ordering::Equal => self.second.cmp(&other.second),
-            Ordering::Greater => Ordering::Greater,
-        }
-    }
 }

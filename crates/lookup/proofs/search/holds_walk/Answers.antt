@@ -1,12 +1,9 @@
-use Rattle.std.proofs.Common.{sym, ◌∙◌}
-use Rattle.lookup.proofs.Holders.{on_hit, on_miss, on_end}
+use Rattle.std.proofs.Common.{rules, tests, ◌∙◌}
+use Rattle.std.proofs.lemmas.Iterator.{YieldsList-from_slice}
+use Rattle.std.proofs.lemmas.Iterator.Search.{any_from_yields_List}
+use Rattle.lookup.specs.Lookup.{is_of}
+use Rattle.lookup.proofs.Holders.{any_of}
 use Rattle.lookup.proofs.search.holds_walk.Goals as goal
 
-pub returns-then-is_of : goal.returns-then-is_of
-returns-then-is_of g c = sym (on_hit g.R.Row.named c.args.first c.args.rows.now c.loop-row.row-index c.row-item.result c.loop-row-test.true c.row-item.is c.if-is_of.ensures) ∙ c.loop-row.invariant
-
-pub loop-row-preserved : goal.loop-row-preserved
-loop-row-preserved g c = sym (on_miss g.R.Row.named c.args.first c.args.rows.now c.loop-row.row-index c.row-item.result c.loop-row-test.true c.row-item.is c.if-is_of.ensures) ∙ c.loop-row.invariant
-
 pub returns : goal.returns
-returns g c = sym (on_end g.R.Row.named c.args.first c.args.rows.now c.loop-row.row-index c.loop-row-test.false) ∙ c.loop-row.invariant
+returns g c = any_from_yields_List (λ x. is_of c.args.first (g.R.Row.named x)) _ _ _ c.any.ensures.ran (YieldsList-from_slice c.args.rows.now cc) (λ x b q k. search (rules, tests)) ∙ any_of g.R.Row.named c.args.first c.args.rows.now
