@@ -1,1 +1,1 @@
-pub mod Lent
+mod Lent

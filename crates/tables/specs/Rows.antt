@@ -1,16 +1,18 @@
 -- The rows of the four tables: when one is present, and its key.
-use Rattle.std.specs.Prelude.{ℕ, Bool, cond, ◌&&◌, Some, None, Option, nat_le}
+use Rattle.std.specs.Prelude.{ℕ, Bool, false, cond, ◌&&◌, Some, None, Option, nat_le}
 use Rattle.rules.specs.declared.buying.Buying.{Buying}
 use Rattle.rules.specs.declared.buying.Buying.TheVariants.{Open}
 use Rattle.rules.specs.declared.price.PriceBand.TheVariants.{Five}
+use Rattle.rules.specs.declared.range.Quantity.{Quantity}
 use Rattle.rules.specs.declared.range.Quantity.TheVariants as quantity
 use Rattle.rules.specs.declared.notice.NoticeBand.{NoticeBand}
 use Rattle.rules.specs.Buyings.{after_notice}
 use Rattle.rules.specs.Ranges.{in_range, range_of}
 use Rattle.lookup.specs.declared.key.Pair.{Pair}
+use Rattle.tables.specs.declared.owner.Participant.{Participant}
+use Rattle.tables.specs.declared.owner.Account.{Account}
 use Rattle.tables.specs.declared.rows.Security.{Security}
 use Rattle.tables.specs.declared.rows.Holding.{Holding}
-use Rattle.tables.specs.declared.rows.AccountHolding.{AccountHolding}
 use Rattle.tables.specs.declared.rows.Designation.{Designation}
 
 -- Two numbers as a key.
@@ -25,29 +27,25 @@ security_present s = in_range (range_of quantity.Code) s.code && in_range (range
 abbrev pub security_key : Security → Option ℕ
 security_key s = cond (security_present s) (Some s.code) None
 
--- A holding's participant, code and opening number are in range.
-abbrev pub holding_bounds : Holding → Bool
-holding_bounds h = (in_range (range_of quantity.Participant) h.participant && in_range (range_of quantity.Code) h.code) && in_range (range_of quantity.Holding) h.opening
+-- A holding's owner, code and opening number are in range, where owners have such numbers.
+abbrev pub held_bounds : {O : Type 0} → Quantity → (O → ℕ) → Holding O → Bool
+held_bounds numbers number h = (in_range (range_of numbers) (number h.owner) && in_range (range_of quantity.Code) h.code) && in_range (range_of quantity.Holding) h.opening
 
 -- A holding's numbers are in range, and no more of it may be sold than there was at the opening.
-abbrev pub holding_present : Holding → Bool
-holding_present h = holding_bounds h && nat_le h.sellable h.opening
+abbrev pub held_present : {O : Type 0} → Quantity → (O → ℕ) → Holding O → Bool
+held_present numbers number h = held_bounds numbers number h && nat_le h.sellable h.opening
 
--- A holding is found by its participant and code.
-abbrev pub holding_key : Holding → Option Pair
-holding_key h = cond (holding_present h) (Some (pair h.participant h.code)) None
+-- A holding is found by its owner and code.
+abbrev pub held_key : {O : Type 0} → Quantity → (O → ℕ) → Holding O → Option Pair
+held_key numbers number h = cond (held_present numbers number h) (Some (pair (number h.owner) h.code)) None
 
--- An account holding's account, code and opening number are in range.
-abbrev pub account_holding_bounds : AccountHolding → Bool
-account_holding_bounds h = (in_range (range_of quantity.Account) h.account && in_range (range_of quantity.Code) h.code) && in_range (range_of quantity.Holding) h.opening
+-- A participant's holding is found by the participant and the code.
+abbrev pub holding_key : Holding Participant → Option Pair
+holding_key = held_key quantity.Participant (λ p. p.0)
 
--- An account holding's numbers are in range, and no more of it may be sold than there was at the opening.
-abbrev pub account_holding_present : AccountHolding → Bool
-account_holding_present h = account_holding_bounds h && nat_le h.sellable h.opening
-
--- An account holding is found by its account and code.
-abbrev pub account_holding_key : AccountHolding → Option Pair
-account_holding_key h = cond (account_holding_present h) (Some (pair h.account h.code)) None
+-- An account's holding is found by the account and the code.
+abbrev pub account_holding_key : Holding Account → Option Pair
+account_holding_key = held_key quantity.Account (λ a. a.0)
 
 -- A designation's account and participant are in range.
 abbrev pub designation_present : Designation → Bool
@@ -61,18 +59,6 @@ designation_key d = cond (designation_present d) (Some (pair d.account d.partici
 abbrev pub no_security : Security
 no_security = record { code = 0; buying = Open; close = 0; band = Five }
 
--- An empty row of the holdings, which is absent.
-abbrev pub no_holding : Holding
-no_holding = record { participant = 0; code = 0; opening = 0; sellable = 0 }
-
--- An empty row of the account holdings, which is absent.
-abbrev pub no_account_holding : AccountHolding
-no_account_holding = record { account = 0; code = 0; opening = 0; sellable = 0 }
-
--- An empty row of the designations, which is absent.
-abbrev pub no_designation : Designation
-no_designation = record { account = 0; participant = 0 }
-
 -- The same security in another buying state.
 abbrev pub with_buying : Security → Buying → Security
 with_buying s b = record { code = s.code; buying = b; close = s.close; band = s.band }
@@ -82,9 +68,10 @@ abbrev pub noticed : Security → NoticeBand → Security
 noticed s b = with_buying s (after_notice s.buying b)
 
 -- The same holding with another sellable number.
-abbrev pub with_sellable : Holding → ℕ → Holding
-with_sellable h n = record { participant = h.participant; code = h.code; opening = h.opening; sellable = n }
+abbrev pub with_sellable : {O : Type 0} → Holding O → ℕ → Holding O
+with_sellable h n = record { owner = h.owner; code = h.code; opening = h.opening; sellable = n }
 
--- The same account holding with another sellable number.
-abbrev pub with_account_sellable : AccountHolding → ℕ → AccountHolding
-with_account_sellable h n = record { account = h.account; code = h.code; opening = h.opening; sellable = n }
+-- A line that is present may have so many sellable shares, where it had as many at the opening.
+abbrev pub may_sell : {O : Type 0} → Quantity → (O → ℕ) → ℕ → Option (Holding O) → Bool
+may_sell numbers number n None = false
+may_sell numbers number n (Some h) = held_present numbers number h && nat_le n h.opening

@@ -1,9 +1,6 @@
-// Rows of the lent tables, and the types that own them.
+// Rows of the lent tables, and the one type that owns them.
 #![tactic(auto)]
 
-pub mod account_holdings;
-pub mod designations;
-pub mod holdings;
+pub mod owner;
 pub mod rows;
-pub mod security_list;
 pub mod table;

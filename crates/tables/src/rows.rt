@@ -1,7 +1,8 @@
 ghost use Rattle.std.specs.Prelude.{◌≡◌, ◌&&◌, nat_le};
 ghost use Rattle.rules.specs.Ranges.{in_range, range_of};
-ghost use Rattle.tables.specs.Rows.{security_present, security_key, holding_present, holding_key, account_holding_present, account_holding_key, designation_present, designation_key};
+ghost use Rattle.tables.specs.Rows.{security_present, security_key, held_present, held_key, designation_present, designation_key};
 
+use super::owner::{Account, Owner, Participant};
 use lookup::key::{Pair, Row};
 use rules::buying::Buying;
 use rules::price::PriceBand;
@@ -16,36 +17,26 @@ pub struct Security {
     pub band: PriceBand,
 }
 
-// What a participant holds of a security.
-#[derive(Clone, Copy, PartialEq, Eq, Debug)]
-pub struct Holding {
-    pub participant: u64,
+// What an owner holds of a security.
+#[derive(Clone, Copy, PartialEq, Eq, Debug, Default)]
+pub struct Holding<O> {
+    pub owner: O,
     pub code: u64,
     pub opening: u64,
     pub sellable: u64,
 }
 
 // What an investor's account holds of a security.
-#[derive(Clone, Copy, PartialEq, Eq, Debug)]
-pub struct AccountHolding {
-    pub account: u64,
-    pub code: u64,
-    pub opening: u64,
-    pub sellable: u64,
-}
+pub type AccountHolding = Holding<Account>;
+
+// What a participant holds of a security.
+pub type ParticipantHolding = Holding<Participant>;
 
 // An account has designated a participant.
-#[derive(Clone, Copy, PartialEq, Eq, Debug)]
+#[derive(Clone, Copy, PartialEq, Eq, Debug, Default)]
 pub struct Designation {
     pub account: u64,
     pub participant: u64,
-}
-
-// Whether the numbers are in range, and no more may be sold than there was at the opening.
-fn is_position(code: u64, opening: u64, sellable: u64) -> bool
-    ensures { result ≡ ((in_range (range_of Quantity.Code) code && in_range (range_of Quantity.Holding) opening) && nat_le sellable opening) }
-{
-    Quantity::Code.has(code) && Quantity::Holding.has(opening) && sellable <= opening
 }
 
 impl Security {
@@ -57,22 +48,15 @@ impl Security {
     }
 }
 
-impl Holding {
+impl<O: Owner> Holding<O> {
     // Whether the row is a line: its numbers are in range, and no more may be sold than there was at the opening.
     pub fn is_present(&self) -> bool
-        ensures { result ≡ holding_present self.now }
+        ensures { result ≡ held_present O.NUMBERS O.number self.now }
     {
-        Quantity::Participant.has(self.participant)
-            && is_position(self.code, self.opening, self.sellable)
-    }
-}
-
-impl AccountHolding {
-    // Whether the row is a line: its numbers are in range, and no more may be sold than there was at the opening.
-    pub fn is_present(&self) -> bool
-        ensures { result ≡ account_holding_present self.now }
-    {
-        Quantity::Account.has(self.account) && is_position(self.code, self.opening, self.sellable)
+        O::NUMBERS.has(self.owner.number())
+            && Quantity::Code.has(self.code)
+            && Quantity::Holding.has(self.opening)
+            && self.sellable <= self.opening
     }
 }
 
@@ -91,45 +75,21 @@ impl Row for Security {
     ghost named = { security_key };
 
     fn key(&self) -> Option<u64> {
-        if self.is_present() {
-            Some(self.code)
-        } else {
-            None
-        }
+        self.is_present().then_some(self.code)
     }
 }
 
-impl Row for Holding {
+impl<O: Owner> Row for Holding<O> {
     type Key = Pair;
 
-    ghost named = { holding_key };
+    ghost named = { held_key O.NUMBERS O.number };
 
     fn key(&self) -> Option<Pair> {
-        if self.is_present() {
-            Some(Pair {
-                first: self.participant,
-                second: self.code,
-            })
-        } else {
-            None
-        }
-    }
-}
-
-impl Row for AccountHolding {
-    type Key = Pair;
-
-    ghost named = { account_holding_key };
-
-    fn key(&self) -> Option<Pair> {
-        if self.is_present() {
-            Some(Pair {
-                first: self.account,
-                second: self.code,
-            })
-        } else {
-            None
-        }
+        let key = Pair {
+            first: self.owner.number(),
+            second: self.code,
+        };
+        self.is_present().then_some(key)
     }
 }
 
@@ -139,13 +99,10 @@ impl Row for Designation {
     ghost named = { designation_key };
 
     fn key(&self) -> Option<Pair> {
-        if self.is_present() {
-            Some(Pair {
-                first: self.account,
-                second: self.participant,
-            })
-        } else {
-            None
-        }
+        let key = Pair {
+            first: self.account,
+            second: self.participant,
+        };
+        self.is_present().then_some(key)
     }
 }
