@@ -1,2 +1,2 @@
-pub mod Pools
+mod Pools
 pub mod Fresh

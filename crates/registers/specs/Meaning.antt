@@ -101,11 +101,9 @@ abbrev pub restored : Meaning → ℕ → ℕ → Meaning
 restored m k n = with_pool m k (restored_in (m.pools k) n)
 
 -- How many shares may be sold after a draw, or its refusal.
-abbrev pub left_in : Option Pool → ℕ → Result ℕ Refusal
-left_in (Some p) n = cond (nat_le n p.sellable) (Ok (p.sellable - n)) (Err ShortBalance)
-left_in None n = Err ShortBalance
+abbrev pub left_of : Pool → ℕ → Result ℕ Refusal
+left_of p n = cond (nat_le n p.sellable) (Ok (p.sellable - n)) (Err ShortBalance)
 
 -- How many shares may be sold after a restore, or its refusal.
-abbrev pub again_in : Option Pool → ℕ → Result ℕ Refusal
-again_in (Some p) n = cond (nat_le (p.sellable + n) p.opening) (Ok (p.sellable + n)) (Err Unsound)
-again_in None n = Err Unsound
+abbrev pub again_of : Pool → ℕ → Result ℕ Refusal
+again_of p n = cond (nat_le (p.sellable + n) p.opening) (Ok (p.sellable + n)) (Err Unsound)

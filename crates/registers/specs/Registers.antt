@@ -1,23 +1,29 @@
 -- The participants' and the accounts' registers: what the lines of their tables mean.
-use Rattle.std.specs.Prelude.{◌≡◌, ℕ, Bool, cond, ◌||◌, List, [], ◌∷◌, map, Some, None, Ok, Err, Option, Result, ◌==◌, slice_index_or}
+use Rattle.std.specs.Prelude.{◌≡◌, ℕ, Bool, cond, ◌||◌, List, [], ◌∷◌, map, Some, None, Ok, Err, Option, Result, ◌==◌}
+use Rattle.std.specs.List.{slice_get}
 use Rattle.rules.specs.declared.refusal.Refusal.{Refusal}
 use Rattle.rules.specs.declared.refusal.Refusal.TheVariants.{Account, Undesignated, NoPosition}
+use Rattle.rules.specs.declared.range.Quantity.{Quantity}
+use Rattle.rules.specs.declared.range.Quantity.TheVariants as quantity
+use Rattle.tables.specs.declared.owner.Participant.{Participant}
+use Rattle.tables.specs.declared.owner.Account.{Account as an_account}
 use Rattle.tables.specs.declared.rows.Holding.{Holding}
-use Rattle.tables.specs.declared.rows.AccountHolding.{AccountHolding}
 use Rattle.tables.specs.declared.rows.Designation.{Designation}
+use Rattle.lookup.specs.declared.key.Pair.{Pair}
 use Rattle.lookup.specs.Orders.{pair_order}
 use Rattle.lookup.specs.Lookup.{seek, some_of}
-use Rattle.tables.specs.Rows.{pair, holding_present, holding_key, no_holding, account_holding_present, account_holding_key, no_account_holding, designation_key}
+use Rattle.tables.specs.Rows.{pair, held_present, held_key, designation_key}
 use Rattle.registers.specs.declared.pool.Pool.{Pool}
 use Rattle.registers.specs.Meaning.{Meaning, pool_of}
 
 -- A present holding is a pool.
-abbrev pub holding_pool : Holding → Option Pool
-holding_pool h = cond (holding_present h) (Some (pool_of h.opening h.sellable)) None
+abbrev pub held_pool : {O : Type 0} → Quantity → (O → ℕ) → Holding O → Option Pool
+held_pool numbers number h = cond (held_present numbers number h) (Some (pool_of h.opening h.sellable)) None
 
--- A present account holding is a pool.
-abbrev pub account_pool : AccountHolding → Option Pool
-account_pool h = cond (account_holding_present h) (Some (pool_of h.opening h.sellable)) None
+-- The pool of a line, if there is such a line.
+abbrev pub pool_at : {O : Type 0} → Quantity → (O → ℕ) → Option (Holding O) → Option Pool
+pool_at numbers number None = None
+pool_at numbers number (Some h) = held_pool numbers number h
 
 -- The line that is found is the pool; where none is, there is no position.
 abbrev pub position : Option ℕ → Result ℕ Refusal
@@ -30,35 +36,34 @@ designated (Some i) next = next
 designated None next = Err Undesignated
 
 -- A participant's own shares: no account is named, and its line of the code is found.
-abbrev pub participant_finds : List Holding → ℕ → ℕ → ℕ → Result ℕ Refusal
-participant_finds lines participant account code =
-    cond (account == 0) (position (seek pair_order 0 (map holding_key lines) (pair participant code))) (Err Account)
+abbrev pub own_finds : List (Option Pair) → ℕ → ℕ → ℕ → Result ℕ Refusal
+own_finds keys participant account code =
+    cond (account == 0) (position (seek pair_order 0 keys (pair participant code))) (Err Account)
 
 -- The account has a line in either table.
-abbrev pub known_account : List AccountHolding → List Designation → ℕ → Bool
-known_account lines names account = some_of account (map account_holding_key lines) || some_of account (map designation_key names)
+abbrev pub known_account : List (Option Pair) → List Designation → ℕ → Bool
+known_account keys names account = some_of account keys || some_of account (map designation_key names)
 
 -- An account's shares: the account is known, it has designated the participant, and its line of the code is found.
-abbrev pub account_finds : List AccountHolding → List Designation → ℕ → ℕ → ℕ → Result ℕ Refusal
-account_finds lines names participant account code =
-    cond (known_account lines names account)
-    (designated (seek pair_order 0 (map designation_key names) (pair account participant)) (position (seek pair_order 0 (map account_holding_key lines) (pair account code))))
+abbrev pub designated_finds : List Designation → List (Option Pair) → ℕ → ℕ → ℕ → Result ℕ Refusal
+designated_finds names keys participant account code =
+    cond (known_account keys names account)
+    (designated (seek pair_order 0 (map designation_key names) (pair account participant)) (position (seek pair_order 0 keys (pair account code))))
     (Err Account)
 
--- What the lines of the participants' holdings mean: a pool's number is its line's place.
-abbrev pub participant_meaning : List Holding → Meaning
-participant_meaning lines = record { pools = λ k. holding_pool (slice_index_or lines k no_holding); finds = participant_finds lines }
+-- What the lines of holdings mean, where orders find a line's key by a rule: a pool's number is its line's place.
+abbrev pub held_meaning : {O : Type 0} → Quantity → (O → ℕ) → (List (Option Pair) → ℕ → ℕ → ℕ → Result ℕ Refusal) → List (Holding O) → Meaning
+held_meaning numbers number finds lines = record { pools = λ k. pool_at numbers number (slice_get lines k); finds = finds (map (held_key numbers number) lines) }
+
+-- What the lines of the participants' holdings mean.
+abbrev pub participant_meaning : List (Holding Participant) → Meaning
+participant_meaning = held_meaning quantity.Participant (λ p. p.0) own_finds
 
 -- What the lines of the accounts' holdings mean, beside the lines of the designations.
-abbrev pub account_meaning : List AccountHolding → List Designation → Meaning
-account_meaning lines names = record { pools = λ k. account_pool (slice_index_or lines k no_account_holding); finds = account_finds lines names }
+abbrev pub account_meaning : List (Holding an_account) → List Designation → Meaning
+account_meaning lines names = held_meaning quantity.Account (λ a. a.0) (designated_finds names) lines
 
 -- All of each holding may still be sold.
-abbrev pub FreshHoldings : List Holding → Type 0
+abbrev pub FreshHoldings : {O : Type 0} → List (Holding O) → Type 0
 FreshHoldings [] = Unit {0}
 FreshHoldings (h ∷ hs) = (h.sellable ≡ h.opening) × FreshHoldings hs
-
--- All of each account holding may still be sold.
-abbrev pub FreshAccountHoldings : List AccountHolding → Type 0
-FreshAccountHoldings [] = Unit {0}
-FreshAccountHoldings (h ∷ hs) = (h.sellable ≡ h.opening) × FreshAccountHoldings hs

@@ -1,14 +1,15 @@
--- The two registers are sound: every pool is in range.
-use Rattle.std.specs.Prelude.{ℕ, ◌%◌, Bool, cond, ◌&&◌, List, Some, None, ◌==◌, nat_le, nat_lt, slice_index_or}
+-- A register over holdings is sound: every pool is in range.
+use Rattle.std.specs.Prelude.{ℕ, ◌%◌, Bool, cond, ◌&&◌, List, Some, None, Option, Result, ◌==◌, nat_le, nat_lt}
+use Rattle.std.specs.List.{slice_get}
 use Rattle.std.proofs.lemmas.Bool.{cond_both, and_parts, leb-true}
+use Rattle.rules.specs.declared.refusal.Refusal.{Refusal}
+use Rattle.rules.specs.declared.range.Quantity.{Quantity}
 use Rattle.rules.specs.declared.range.Quantity.TheVariants as quantity
 use Rattle.rules.specs.Ranges.{in_range, range_of}
+use Rattle.lookup.specs.declared.key.Pair.{Pair}
 use Rattle.tables.specs.declared.rows.Holding.{Holding}
-use Rattle.tables.specs.declared.rows.AccountHolding.{AccountHolding}
-use Rattle.tables.specs.declared.rows.Designation.{Designation}
-use Rattle.tables.specs.Rows.{no_holding, no_account_holding}
 use Rattle.registers.specs.Meaning.{pool_of, most_shares, SoundPool, Sound}
-use Rattle.registers.specs.Registers.{participant_meaning, account_meaning}
+use Rattle.registers.specs.Registers.{held_meaning, pool_at}
 
 -- A row whose opening number is in range, and of which no more may be sold, is a pool in range.
 row_sound : (owner : Bool) (opening sellable : ℕ) → SoundPool (cond ((owner && in_range (range_of quantity.Holding) opening) && nat_le sellable opening) (Some (pool_of opening sellable)) None)
@@ -20,14 +21,11 @@ row_sound owner opening sellable = cond_both ((owner && in_range (range_of quant
     record { below = leb-true sellable opening p.1; capped = leb-true opening most_shares (and_parts (nat_le 1 opening) (nat_le opening most_shares) r.0).1 })
     (λ e. tt)
 
--- The participants' register is sound.
-pub participant_sound : (lines : List Holding) → Sound (participant_meaning lines)
-participant_sound lines k =
-    let h = slice_index_or lines k no_holding in
-    row_sound (in_range (range_of quantity.Participant) h.participant && in_range (range_of quantity.Code) h.code) h.opening h.sellable
+module _ {O : Type 0} (numbers : Quantity) (number : O → ℕ) where
+  line_sound : (line : Option (Holding O)) → SoundPool (pool_at numbers number line)
+  line_sound None = tt
+  line_sound (Some h) = row_sound (in_range (range_of numbers) (number h.owner) && in_range (range_of quantity.Code) h.code) h.opening h.sellable
 
--- The accounts' register is sound.
-pub account_sound : (lines : List AccountHolding) (names : List Designation) → Sound (account_meaning lines names)
-account_sound lines names k =
-    let h = slice_index_or lines k no_account_holding in
-    row_sound (in_range (range_of quantity.Account) h.account && in_range (range_of quantity.Code) h.code) h.opening h.sellable
+  -- The register is sound, whatever its orders find lines by.
+  pub held_sound : (finds : List (Option Pair) → ℕ → ℕ → ℕ → Result ℕ Refusal) (lines : List (Holding O)) → Sound (held_meaning numbers number finds lines)
+  held_sound finds lines k = line_sound (slice_get lines k)

@@ -6,6 +6,7 @@ ghost use Rattle.registers.specs.Meaning.{Meaning, Sound, drawn, draw_answer, re
 
 // Registers of the shares that may be sold.
 pub mod accounts;
+pub mod held;
 pub mod participants;
 pub mod pool;
 

@@ -1,5 +1,5 @@
 ghost use Rattle.std.specs.Prelude.{◌≡◌};
-ghost use Rattle.registers.specs.Meaning.{left_in, again_in, opening_in, sellable_in};
+ghost use Rattle.registers.specs.Meaning.{left_of, again_of};
 
 use rules::refusal::Refusal;
 
@@ -10,50 +10,23 @@ pub struct Pool {
     pub sellable: u64,
 }
 
-// How many shares of a pool may be sold once some are drawn.
-pub(crate) fn left_after(pool: Option<Pool>, shares: u64) -> Result<u64, Refusal>
-    ensures { result ≡ left_in pool shares }
-{
-    match pool {
-        Some(p) => {
-            if shares > p.sellable {
-                return Err(Refusal::ShortBalance);
-            }
-            Ok(p.sellable - shares)
+impl Pool {
+    // How many shares may be sold once some are drawn.
+    pub(crate) fn left_after(self, shares: u64) -> Result<u64, Refusal>
+        ensures { result ≡ left_of self shares }
+    {
+        self.sellable
+            .checked_sub(shares)
+            .ok_or(Refusal::ShortBalance)
+    }
+
+    // How many shares may be sold once some are given back.
+    pub(crate) fn again_after(self, shares: u64) -> Result<u64, Refusal>
+        ensures { result ≡ again_of self shares }
+    {
+        match self.sellable.checked_add(shares) {
+            Some(again) if again <= self.opening => Ok(again),
+            _ => Err(Refusal::Unsound),
         }
-        None => Err(Refusal::ShortBalance),
-    }
-}
-
-// How many shares of a pool may be sold once some are given back.
-pub(crate) fn again_after(pool: Option<Pool>, shares: u64) -> Result<u64, Refusal>
-    ensures { result ≡ again_in pool shares }
-{
-    match pool {
-        Some(p) => {
-            if shares > p.opening || p.sellable > p.opening - shares {
-                return Err(Refusal::Unsound);
-            }
-            Ok(p.sellable + shares)
-        }
-        None => Err(Refusal::Unsound),
-    }
-}
-
-pub(crate) fn opening_of(pool: Option<Pool>) -> Option<u64>
-    ensures { result ≡ opening_in pool }
-{
-    match pool {
-        Some(p) => Some(p.opening),
-        None => None,
-    }
-}
-
-pub(crate) fn sellable_of(pool: Option<Pool>) -> Option<u64>
-    ensures { result ≡ sellable_in pool }
-{
-    match pool {
-        Some(p) => Some(p.sellable),
-        None => None,
     }
 }

@@ -18,15 +18,16 @@ set_in_lines (suc n) [] k x l = refl
 set_in_lines (suc n) (y ∷ ys) zero x l = ap (λ r. x ∷ r) (take-append-drop n ys)
 set_in_lines (suc n) (y ∷ ys) (suc k) x l = ap (λ r. y ∷ r) (set_in_lines n ys k x (omega (arith, l)))
 
-module _ {X K : Type 0} (order : K → K → Ordering) (name : X → Option K) where
-  keys_set : (rows : List X) (k : ℕ) (x : X) → IfSome (slice_get rows k) (λ y. name x ≡ name y) → map name (set rows k x) ≡ map name rows
-  keys_set [] k x e = refl
-  keys_set (y ∷ ys) zero x e = ap (λ o. o ∷ map name ys) e
-  keys_set (y ∷ ys) (suc k) x e = ap (λ os. name y ∷ os) (keys_set ys k x e)
+-- a row that is replaced by one of the same key leaves the keys as they were
+pub keys_set : {X K : Type 0} (name : X → Option K) (rows : List X) (k : ℕ) (x : X) → IfSome (slice_get rows k) (λ y. name x ≡ name y) → map name (set rows k x) ≡ map name rows
+keys_set name [] k x e = refl
+keys_set name (y ∷ ys) zero x e = ap (λ o. o ∷ map name ys) e
+keys_set name (y ∷ ys) (suc k) x e = ap (λ os. name y ∷ os) (keys_set name ys k x e)
 
+module _ {X K : Type 0} (order : K → K → Ordering) (name : X → Option K) where
   -- the table still counts no more lines than it has rows, and still knows whether they rise
   pub kept : (rows : List X) (count k : ℕ) (x : X) (b : Bool) → k < count → IfSome (slice_get (take count rows) k) (λ y. name x ≡ name y) → (count ≤ length rows) × (b ≡ rise order name (take count rows)) → (count ≤ length (set (take count rows) k x ++ drop count rows)) × (b ≡ rise order name (take count (set (take count rows) k x ++ drop count rows)))
   kept rows count k x b l e was = (
     omega (arith, was.0, length-set rows k x, ap length (set_in_lines count rows k x l)),
-    was.1 ∙ sym (ap (λ r. rise order name (take count r)) (set_in_lines count rows k x l) ∙ ap (λ r. rise order name r) (take_set_in count rows k x) ∙ ap (rise_from order None) (keys_set (take count rows) k x e)),
+    was.1 ∙ sym (ap (λ r. rise order name (take count r)) (set_in_lines count rows k x l) ∙ ap (λ r. rise order name r) (take_set_in count rows k x) ∙ ap (rise_from order None) (keys_set name (take count rows) k x e)),
   )

@@ -1,1 +1,1 @@
-mod Lent
+pub mod Lent
