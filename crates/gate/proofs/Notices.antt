@@ -1,6 +1,6 @@
 -- What a notice leaves.
 use Rattle.std.proofs.Common.{◌≡◌, ℕ, ◌<◌, ◌≤◌, false, List, map, length, get_or, take, set, Some, None, refl, arith}
-use Rattle.std.proofs.lemmas.List.{length-map, length-take-le}
+use Rattle.std.proofs.lemmas.List.{length-map, length-take}
 use Rattle.rules.specs.Notices.{notice_band, unfit_notice}
 use Rattle.tables.specs.declared.rows.Security.{Security}
 use Rattle.tables.specs.Rows.{no_security, noticed, security_key}
@@ -9,8 +9,8 @@ use Rattle.gate.specs.Balances.{settled}
 use Rattle.gate.specs.Calls.{desk, Did, listed, notice}
 
 -- a place among the keys of the lines is one of the lines
-pub in_lines : (rows : List Security) (count place : ℕ) → count ≤ length rows → place < length (map security_key (take count rows)) → place < count
-in_lines rows count place fits l = omega (arith, l, length-map (take count rows) security_key, length-take-le count rows fits)
+pub in_lines : (rows : List Security) (count place : ℕ) → place < length (map security_key (take count rows)) → place < count
+in_lines rows count place l = omega (arith, l, length-map (take count rows) security_key, length-take count rows)
 
 same_desk : (f f' : Figures) (l l' : List Security) → f ≡ f' → l ≡ l' → desk f l ≡ desk f' l'
 same_desk f f' l l' a b = cc

@@ -8,7 +8,7 @@ use Rattle.rules.specs.Phases.{phase_rules}
 use Rattle.rules.specs.Rules.{when, first_broken, kept_or}
 use Rattle.tables.specs.declared.rows.Security.{Security}
 use Rattle.lookup.specs.Lookup.{seek}
-use Rattle.lookup.specs.Orders.{number_order}
+use Rattle.std.specs.Ordering.{nat_cmp}
 use Rattle.tables.specs.Rows.{no_security, noticed, security_key}
 use Rattle.gate.specs.declared.figures.Figures.{Figures}
 use Rattle.gate.specs.Balances.{settled}
@@ -43,7 +43,7 @@ in_phase f phase = record { market = f.market; date = f.date; quota = f.quota; b
 
 -- The place of a code among the lines of the list.
 abbrev pub listed : List Security → ℕ → Option ℕ
-listed list code = seek number_order 0 (map security_key list) code
+listed list code = seek nat_cmp 0 (map security_key list) code
 
 -- The list where a notice of so many foreign shares in a total has reached the line at a place.
 abbrev pub noticed_at : List Security → Option ℕ → ℕ → ℕ → List Security
