@@ -7,7 +7,8 @@ use Rattle.rules.specs.declared.refusal.Refusal.TheVariants as refusal
 use Rattle.lookup.specs.declared.key.Pair.{Pair}
 use Rattle.tables.specs.declared.rows.Designation.{Designation}
 use Rattle.lookup.specs.Lookup.{is_above, rise_from}
-use Rattle.lookup.specs.Orders.{pair_order, is_less}
+use Rattle.std.specs.Ordering.{is_lt}
+use Rattle.lookup.specs.Orders.{pair_order}
 use Rattle.tables.specs.Rows.{pair, designation_present, designation_key}
 use Rattle.fields.specs.declared.fault.FieldFault.{FieldFault}
 use Rattle.fields.specs.Faults.{and_then}
@@ -57,7 +58,7 @@ Counted (Some r) so_far = (so_far r.last.first ≡ r.named) × ((a : ℕ) → r.
 abbrev one : Designation → ℕ → ℕ
 one d a = cond (eqb d.account a) 1 0
 
-not_lower : (p q : Pair) → is_less (pair_order p q) ≡ true → p.first ≤ q.first
+not_lower : (p q : Pair) → is_lt (pair_order p q) ≡ true → p.first ≤ q.first
 not_lower p q e = grind (arith, nat_tests)
 
 has_key : (d : Designation) → designation_present d ≡ true → designation_key d ≡ Some (key d)

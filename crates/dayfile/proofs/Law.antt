@@ -10,11 +10,15 @@ use Rattle.rules.specs.declared.refusal.Refusal.TheVariants as refusal
 use Rattle.rules.specs.Letters.{letter_rules}
 use Rattle.tables.specs.declared.rows.Security.{Security}
 use Rattle.tables.specs.declared.rows.Holding.{Holding}
-use Rattle.tables.specs.declared.rows.AccountHolding.{AccountHolding}
+use Rattle.tables.specs.declared.owner.Participant.{Participant}
+use Rattle.tables.specs.declared.owner.Account.{Account}
 use Rattle.tables.specs.declared.rows.Designation.{Designation}
 use Rattle.lookup.specs.Lookup.{is_above, rise_from}
-use Rattle.lookup.specs.Orders.{TotalOrder, number_order, pair_order}
-use Rattle.tables.specs.Rows.{pair, security_present, security_key, holding_present, holding_key, account_holding_present, account_holding_key, designation_present, designation_key}
+use Rattle.std.specs.Ordering.{nat_cmp}
+use Rattle.lookup.specs.Orders.{TotalOrder, pair_order}
+use Rattle.tables.specs.Rows.{pair, security_present, security_key, held_present, held_key, holding_key, account_holding_key, designation_present, designation_key}
+use Rattle.rules.specs.declared.range.Quantity.{Quantity}
+use Rattle.rules.specs.declared.range.Quantity.TheVariants as quantity
 use Rattle.lookup.proofs.Rise.{rising_means, words_mean}
 use Rattle.lookup.proofs.Holders.{pairs_total}
 use Rattle.fields.specs.declared.fault.FieldFault.{FieldFault}
@@ -26,17 +30,16 @@ use Rattle.fields.proofs.Numbers.{by_then}
 use Rattle.fields.proofs.ReadBack.{written_wide}
 use Rattle.dayfile.specs.declared.plan.Opening.{Opening}
 use Rattle.dayfile.specs.declared.plan.Counts.{Counts}
-use Rattle.dayfile.specs.declared.plan.Plan.{Plan}
 use Rattle.dayfile.specs.Groups.{Kind, group, rows_of, starts, turn}
 use Rattle.dayfile.specs.Kinds.{security_kind, holding_kind, account_holding_kind, designation_kind}
 use Rattle.dayfile.specs.Rows.{line_of}
-use Rattle.dayfile.specs.DayPart.{securities_at, holdings_at, account_holdings_at, designations_at, end_at, events_at, end_line, opening_of, agreed, ending_of, counts, plan, day_part}
+use Rattle.dayfile.specs.DayPart.{Plan, securities_at, holdings_at, account_holdings_at, designations_at, end_at, events_at, end_line, opening_of, agreed, ending_of, counts, plan, day_part}
 use Rattle.dayfile.specs.Description.{Description, security_numbers, holding_numbers, account_holding_numbers, designation_numbers, opening_numbers, end_numbers, counts_of, written, WellFormed, Fits, Describes, described, plan_of}
 use Rattle.dayfile.proofs.Written.{Grouped, grouped, accepted, rows_written, joined_wide, beside_ok, clash}
-use Rattle.dayfile.proofs.Reading.{within_long, three, four, line_read, line_written, GoodSecurity, GoodHolding, GoodAccountHolding, GoodDesignation, security_lined, holding_lined, account_holding_lined, designation_lined}
+use Rattle.dayfile.proofs.Reading.{within_long, three, four, line_read, line_written, GoodSecurity, GoodHeld, GoodHolding, GoodAccountHolding, GoodDesignation, security_lined, holding_lined, account_holding_lined, designation_lined}
 use Rattle.dayfile.proofs.Following.{steps_rise, rise_steps, designations_step, designations_follow}
 
-numbers_total : TotalOrder number_order
+numbers_total : TotalOrder nat_cmp
 numbers_total = record {
   same = λ a b e. grind (arith, nat_tests);
   itself = λ a. grind (arith, nat_tests);
@@ -49,10 +52,10 @@ numbers_total = record {
 abbrev security_line : Security → List ℕ
 security_line s = written_line letter.Security (security_numbers s)
 
-abbrev holding_line : Holding → List ℕ
+abbrev holding_line : Holding Participant → List ℕ
 holding_line h = written_line letter.Holding (holding_numbers h)
 
-abbrev account_holding_line : AccountHolding → List ℕ
+abbrev account_holding_line : Holding Account → List ℕ
 account_holding_line h = written_line letter.AccountHolding (account_holding_numbers h)
 
 abbrev designation_line : Designation → List ℕ
@@ -62,11 +65,14 @@ designation_line d = written_line letter.Designation (designation_numbers d)
 security_has : (s : Security) → GoodSecurity s → security_key s ≡ Some s.code
 security_has s g = ap (λ b. cond b (Some s.code) None) g
 
-holding_has : (h : Holding) → GoodHolding h → holding_key h ≡ Some (pair h.participant h.code)
-holding_has h g = ap (λ b. cond b (Some (pair h.participant h.code)) None) g.0
+held_has : {O : Type 0} (numbers : Quantity) (number : O → ℕ) (h : Holding O) → GoodHeld numbers number h → held_key numbers number h ≡ Some (pair (number h.owner) h.code)
+held_has numbers number h g = ap (λ b. cond b (Some (pair (number h.owner) h.code)) None) g.0
 
-account_holding_has : (h : AccountHolding) → GoodAccountHolding h → account_holding_key h ≡ Some (pair h.account h.code)
-account_holding_has h g = ap (λ b. cond b (Some (pair h.account h.code)) None) g.0
+holding_has : (h : Holding Participant) → GoodHolding h → holding_key h ≡ Some (pair h.owner.0 h.code)
+holding_has = held_has quantity.Participant (λ p. p.0)
+
+account_holding_has : (h : Holding Account) → GoodAccountHolding h → account_holding_key h ≡ Some (pair h.owner.0 h.code)
+account_holding_has = held_has quantity.Account (λ a. a.0)
 
 all_fresh : {X : Type 0} (P Q : X → Type 0) (xs : List X) → AllByRecursion (λ x. P x × Q x) xs → AllByRecursion Q xs
 all_fresh P Q [] a = tt
@@ -153,11 +159,11 @@ module _ (input : List ℕ) (room : Counts) (o : Opening) (c : Counts)
       let g = designations_step day.designations gs.good gs.steps in
       record {
         opening = d_line.within;
-        securities = rising_means number_order numbers_total (map security_key day.securities) (steps_rise security_kind number_order security_key (λ s. s.code) GoodSecurity security_has (λ last s. refl) day.securities None ss.good ss.steps);
-        holdings = rising_means pair_order pairs_total (map holding_key day.holdings) (steps_rise holding_kind pair_order holding_key (λ h. pair h.participant h.code) GoodHolding holding_has (λ last h. refl) day.holdings None ps.good ps.steps);
-        holdings_fresh = all_fresh (λ h. holding_present h ≡ true) (λ h. h.sellable ≡ h.opening) day.holdings ps.good;
-        account_holdings = rising_means pair_order pairs_total (map account_holding_key day.account_holdings) (steps_rise account_holding_kind pair_order account_holding_key (λ h. pair h.account h.code) GoodAccountHolding account_holding_has (λ last h. refl) day.account_holdings None hs.good hs.steps);
-        account_holdings_fresh = all_fresh (λ h. account_holding_present h ≡ true) (λ h. h.sellable ≡ h.opening) day.account_holdings hs.good;
+        securities = rising_means nat_cmp numbers_total (map security_key day.securities) (steps_rise security_kind nat_cmp security_key (λ s. s.code) GoodSecurity security_has (λ last s. refl) day.securities None ss.good ss.steps);
+        holdings = rising_means pair_order pairs_total (map holding_key day.holdings) (steps_rise holding_kind pair_order holding_key (λ h. pair h.owner.0 h.code) GoodHolding holding_has (λ last h. refl) day.holdings None ps.good ps.steps);
+        holdings_fresh = all_fresh (λ h. held_present quantity.Participant (λ p. p.0) h ≡ true) (λ h. h.sellable ≡ h.opening) day.holdings ps.good;
+        account_holdings = rising_means pair_order pairs_total (map account_holding_key day.account_holdings) (steps_rise account_holding_kind pair_order account_holding_key (λ h. pair h.owner.0 h.code) GoodAccountHolding account_holding_has (λ last h. refl) day.account_holdings None hs.good hs.steps);
+        account_holdings_fresh = all_fresh (λ h. held_present quantity.Account (λ a. a.0) h ≡ true) (λ h. h.sellable ≡ h.opening) day.account_holdings hs.good;
         designations = rising_means pair_order pairs_total (map designation_key day.designations) g.0;
         few_named = g.1;
         ending = subst (λ k. Within (letter_rules letter.End).fields (end_numbers k)) (sym same_counts) e_line.within;
@@ -243,7 +249,7 @@ skips l m numbers (x ∷ xs) more e s = not_first l (letter_rules m).byte _ e
 ending_agrees : (c : Counts) → ending_of c (end_numbers c) ≡ Ok tt
 ending_agrees c = rw (eq-eqb c.securities c.securities refl, eq-eqb c.holdings c.holdings refl, eq-eqb c.account_holdings c.account_holdings refl, eq-eqb c.designations c.designations refl) refl
 
-description_same : (d : Description) {ss : List Security} {hs : List Holding} {accounts : List AccountHolding} {gs : List Designation} → ss ≡ d.securities → hs ≡ d.holdings → accounts ≡ d.account_holdings → gs ≡ d.designations → record { market = d.market; date = d.date; quota = d.quota; securities = ss; holdings = hs; account_holdings = accounts; designations = gs } ≡ d
+description_same : (d : Description) {ss : List Security} {hs : List (Holding Participant)} {accounts : List (Holding Account)} {gs : List Designation} → ss ≡ d.securities → hs ≡ d.holdings → accounts ≡ d.account_holdings → gs ≡ d.designations → record { market = d.market; date = d.date; quota = d.quota; securities = ss; holdings = hs; account_holdings = accounts; designations = gs } ≡ d
 description_same d a b c e = rw (a, b, c, e) refl
 
 -- the input, from each group on
@@ -270,13 +276,13 @@ module _ (d : Description) (events : List ℕ) (w : WellFormed d) where
   whole_is = six (written_line letter.Day (opening_numbers d)) (flat_map security_line d.securities) (flat_map holding_line d.holdings) (flat_map account_holding_line d.account_holdings) (flat_map designation_line d.designations) (written_line letter.End (end_numbers (counts_of d))) events
 
   good_securities : AllByRecursion GoodSecurity d.securities
-  good_securities = all_present number_order security_present (λ s. s.code) d.securities None (words_mean number_order numbers_total (map security_key d.securities) w.securities)
+  good_securities = all_present nat_cmp security_present (λ s. s.code) d.securities None (words_mean nat_cmp numbers_total (map security_key d.securities) w.securities)
 
   good_holdings : AllByRecursion GoodHolding d.holdings
-  good_holdings = all_both (λ h. holding_present h ≡ true) (λ h. h.sellable ≡ h.opening) d.holdings (all_present pair_order holding_present (λ h. pair h.participant h.code) d.holdings None (words_mean pair_order pairs_total (map holding_key d.holdings) w.holdings)) w.holdings_fresh
+  good_holdings = all_both (λ h. held_present quantity.Participant (λ p. p.0) h ≡ true) (λ h. h.sellable ≡ h.opening) d.holdings (all_present pair_order (held_present quantity.Participant (λ p. p.0)) (λ h. pair h.owner.0 h.code) d.holdings None (words_mean pair_order pairs_total (map holding_key d.holdings) w.holdings)) w.holdings_fresh
 
   good_account_holdings : AllByRecursion GoodAccountHolding d.account_holdings
-  good_account_holdings = all_both (λ h. account_holding_present h ≡ true) (λ h. h.sellable ≡ h.opening) d.account_holdings (all_present pair_order account_holding_present (λ h. pair h.account h.code) d.account_holdings None (words_mean pair_order pairs_total (map account_holding_key d.account_holdings) w.account_holdings)) w.account_holdings_fresh
+  good_account_holdings = all_both (λ h. held_present quantity.Account (λ a. a.0) h ≡ true) (λ h. h.sellable ≡ h.opening) d.account_holdings (all_present pair_order (held_present quantity.Account (λ a. a.0)) (λ h. pair h.owner.0 h.code) d.account_holdings None (words_mean pair_order pairs_total (map account_holding_key d.account_holdings) w.account_holdings)) w.account_holdings_fresh
 
   good_designations : AllByRecursion GoodDesignation d.designations
   good_designations = all_present pair_order designation_present (λ g. pair g.account g.participant) d.designations None (words_mean pair_order pairs_total (map designation_key d.designations) w.designations)
@@ -317,7 +323,7 @@ module _ (d : Description) (events : List ℕ) (w : WellFormed d) where
     takes_securities =
         ap (group security_kind room.securities 0 None 2) at_securities
         ∙ accepted security_kind security_line GoodSecurity security_lined d.securities room.securities None 2 from_holdings good_securities
-        (rise_steps security_kind number_order security_key (λ s. s.code) GoodSecurity security_has (λ last s. refl) d.securities None good_securities (words_mean number_order numbers_total (map security_key d.securities) w.securities))
+        (rise_steps security_kind nat_cmp security_key (λ s. s.code) GoodSecurity security_has (λ last s. refl) d.securities None good_securities (words_mean nat_cmp numbers_total (map security_key d.securities) w.securities))
         f.securities
         (skips letter.Security letter.Holding holding_numbers d.holdings from_account_holdings refl (skips letter.Security letter.AccountHolding account_holding_numbers d.account_holdings from_designations refl (skips letter.Security letter.Designation designation_numbers d.designations from_end refl (not_first letter.Security 69 _ refl))))
 
@@ -325,7 +331,7 @@ module _ (d : Description) (events : List ℕ) (w : WellFormed d) where
     takes_holdings =
         ap (group holding_kind room.holdings 0 None (2 + length d.securities)) at_holdings
         ∙ accepted holding_kind holding_line GoodHolding holding_lined d.holdings room.holdings None (2 + length d.securities) from_account_holdings good_holdings
-        (rise_steps holding_kind pair_order holding_key (λ h. pair h.participant h.code) GoodHolding holding_has (λ last h. refl) d.holdings None good_holdings (words_mean pair_order pairs_total (map holding_key d.holdings) w.holdings))
+        (rise_steps holding_kind pair_order holding_key (λ h. pair h.owner.0 h.code) GoodHolding holding_has (λ last h. refl) d.holdings None good_holdings (words_mean pair_order pairs_total (map holding_key d.holdings) w.holdings))
         f.holdings
         (skips letter.Holding letter.AccountHolding account_holding_numbers d.account_holdings from_designations refl (skips letter.Holding letter.Designation designation_numbers d.designations from_end refl (not_first letter.Holding 69 _ refl)))
 
@@ -333,7 +339,7 @@ module _ (d : Description) (events : List ℕ) (w : WellFormed d) where
     takes_account_holdings =
         ap (group account_holding_kind room.account_holdings 0 None (2 + length d.securities + length d.holdings)) at_account_holdings
         ∙ accepted account_holding_kind account_holding_line GoodAccountHolding account_holding_lined d.account_holdings room.account_holdings None (2 + length d.securities + length d.holdings) from_designations good_account_holdings
-        (rise_steps account_holding_kind pair_order account_holding_key (λ h. pair h.account h.code) GoodAccountHolding account_holding_has (λ last h. refl) d.account_holdings None good_account_holdings (words_mean pair_order pairs_total (map account_holding_key d.account_holdings) w.account_holdings))
+        (rise_steps account_holding_kind pair_order account_holding_key (λ h. pair h.owner.0 h.code) GoodAccountHolding account_holding_has (λ last h. refl) d.account_holdings None good_account_holdings (words_mean pair_order pairs_total (map account_holding_key d.account_holdings) w.account_holdings))
         f.account_holdings
         (skips letter.AccountHolding letter.Designation designation_numbers d.designations from_end refl (not_first letter.AccountHolding 69 _ refl))
 

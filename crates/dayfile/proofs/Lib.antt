@@ -1,4 +1,6 @@
 pub mod Groups
+mod Held
+mod Places
 pub mod Written
 pub mod Reading
 pub mod Following

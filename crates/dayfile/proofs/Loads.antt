@@ -4,9 +4,8 @@ use Rattle.std.specs.List.{AllByRecursion}
 use Rattle.std.proofs.lemmas.List.{length-append, take_at}
 use Rattle.rules.specs.declared.letter.Part.TheVariants as part
 use Rattle.tables.specs.declared.rows.Holding.{Holding}
-use Rattle.tables.specs.declared.rows.AccountHolding.{AccountHolding}
-use Rattle.registers.specs.Registers.{FreshHoldings, FreshAccountHoldings, participant_meaning, account_meaning}
-use Rattle.registers.proofs.Fresh.{fresh_lines, fresh_account_lines}
+use Rattle.registers.specs.Registers.{FreshHoldings, own_finds, designated_finds, participant_meaning, account_meaning}
+use Rattle.registers.proofs.Fresh.{fresh_lines}
 use Rattle.registers.specs.Meaning.{Fresh}
 use Rattle.fields.specs.declared.fault.DayFault.{DayFault}
 use Rattle.fields.specs.declared.fault.LineFault.{LineFault}
@@ -14,14 +13,16 @@ use Rattle.fields.specs.Faults.{day_at}
 use Rattle.fields.specs.Layout.{width_of}
 use Rattle.gate.specs.declared.day.LoadingDay.{LoadingDay}
 use Rattle.dayfile.specs.declared.loaded.Loaded.{Loaded}
-use Rattle.dayfile.specs.declared.plan.Plan.{Plan}
-use Rattle.dayfile.specs.DayPart.{day_part, Planned, securities_at, holdings_at, account_holdings_at, designations_at}
+use Rattle.rules.specs.declared.range.Quantity.TheVariants as quantity
+use Rattle.tables.specs.Tables.{Lent, lines_of}
+use Rattle.dayfile.specs.declared.lent.Tables.{Tables}
+use Rattle.dayfile.specs.DayPart.{Plan, day_part, Planned, securities_at, holdings_at, account_holdings_at, designations_at}
 use Rattle.dayfile.specs.Description.{Describes, described, plan_of}
-use Rattle.dayfile.specs.Groups.{Kind, Lines, oks, rows_of}
+use Rattle.dayfile.specs.Groups.{Kind, Lines, filled, oks, rows_of}
 use Rattle.dayfile.specs.Kinds.{security_kind, holding_kind, account_holding_kind, designation_kind}
-use Rattle.dayfile.specs.Loads.{Begins, Lent, Load, Tables, filled, filled_by, Holds, lines_of, loaded, room_of}
+use Rattle.dayfile.specs.Loads.{Begins, Load, filled_by, Holds, loaded, room_of}
 use Rattle.dayfile.proofs.Law.{day_read, day_written}
-use Rattle.dayfile.proofs.Written.{beside_ok, clash}
+use Rattle.dayfile.proofs.Written.{clash}
 
 ok_one : {R E : Type 0} (r : Result R E) → is_ok r ≡ true → length (oks r) ≡ 1
 ok_one (Ok x) e = refl
@@ -39,29 +40,22 @@ module _ {R S : Type 0} (kind : Kind R S) where
   filled_lines : (room at : ℕ) (input : List ℕ) (n : ℕ) (old : Lent R) → Lines kind room at input n → lines_of (filled kind n (drop at input) old) ≡ rows_of kind n (drop at input)
   filled_lines room at input n old l = take_at (rows_of kind n (drop at input)) (drop n old.rows) n (rows_long n (drop at input) l.good)
 
-fresh_holdings : (hs : List Holding) → AllByRecursion (λ h. h.sellable ≡ h.opening) hs → FreshHoldings hs
+fresh_holdings : {O : Type 0} (hs : List (Holding O)) → AllByRecursion (λ h. h.sellable ≡ h.opening) hs → FreshHoldings hs
 fresh_holdings [] a = tt
 fresh_holdings (h ∷ hs) a = (a.0, fresh_holdings hs a.1)
 
-fresh_account_holdings : (hs : List AccountHolding) → AllByRecursion (λ h. h.sellable ≡ h.opening) hs → FreshAccountHoldings hs
-fresh_account_holdings [] a = tt
-fresh_account_holdings (h ∷ hs) a = (a.0, fresh_account_holdings hs a.1)
-
-day_ok : (r : Result Plan LineFault) (made : Plan) → Ok made ≡ day_at part.Day r → r ≡ Ok made
-day_ok r made e = beside_ok r (λ f. record { line = f; part = part.Day }) made (sym e)
-
-day_err : (r : Result Plan LineFault) (f : DayFault) (made : Plan) → Err f ≡ day_at part.Day r → r ≡ Ok made → ⊥
+day_err : (r : Result Plan LineFault) (f : DayFault) (made : Plan) → day_at part.Day r ≡ Err f → r ≡ Ok made → ⊥
 day_err (Ok p) f made e q = clash (cc)
 day_err (Err g) f made e q = clash (cc)
 
-same_tables : (r : Result Plan LineFault) (f : DayFault) (input : List ℕ) (before : Tables) → Err f ≡ day_at part.Day r → before ≡ loaded r input before
+same_tables : (r : Result Plan LineFault) (f : DayFault) (input : List ℕ) (before : Tables) → day_at part.Day r ≡ Err f → before ≡ loaded r input before
 same_tables (Ok p) f input before e = clash (cc)
 same_tables (Err g) f input before e = refl
 
 -- a load that is refused
-pub refused : (input : List ℕ) (before : Tables) (day : LoadingDay) (f : DayFault) → Err f ≡ day_at part.Day (day_part input (room_of before)) → Load input before (Err (day, f)) before
+pub refused : (input : List ℕ) (before : Tables) (day : LoadingDay) (f : DayFault) → day_at part.Day (day_part input (room_of before)) ≡ Err f → Load input before (Err (day, f)) before
 refused input before day f e = record {
-  answers = sym e;
+  answers = e;
   leaves = same_tables (day_part input (room_of before)) f input before e;
   described = tt;
   accepts = λ d is. absurd (day_err (day_part input (room_of before)) f (plan_of d) e (day_written input (room_of before) d is).0);
@@ -79,17 +73,16 @@ holds_described input before made p is =
       holdings = h;
       account_holdings = a;
       designations = g;
-      participants_fresh = subst (λ hs. Fresh (participant_meaning hs)) (sym h) (fresh_lines (described input made).holdings (fresh_holdings (described input made).holdings is.well_formed.holdings_fresh));
-      accounts_fresh = subst (λ hs. Fresh (account_meaning hs (lines_of (filled_by made input before).designations))) (sym a) (fresh_account_lines (described input made).account_holdings (lines_of (filled_by made input before).designations) (fresh_account_holdings (described input made).account_holdings is.well_formed.account_holdings_fresh));
+      participants_fresh = subst (λ hs. Fresh (participant_meaning hs)) (sym h) (fresh_lines quantity.Participant (λ p. p.0) own_finds (described input made).holdings (fresh_holdings (described input made).holdings is.well_formed.holdings_fresh));
+      accounts_fresh = subst (λ hs. Fresh (account_meaning hs (lines_of (filled_by made input before).designations))) (sym a) (fresh_lines quantity.Account (λ a. a.0) (designated_finds (lines_of (filled_by made input before).designations)) (described input made).account_holdings (fresh_holdings (described input made).account_holdings is.well_formed.account_holdings_fresh));
     }
 
 same_plan : (r : Result Plan LineFault) (a b : Plan) → r ≡ Ok a → r ≡ Ok b → a ≡ b
 same_plan r a b p q = cc
 
 -- a load that is accepted
-pub taken : (input : List ℕ) (before after : Tables) (l : Loaded) (made : Plan) → Ok made ≡ day_at part.Day (day_part input (room_of before)) → Planned input (room_of before) made → Begins input made l.day.figures l.events l.line → after ≡ filled_by made input before → Load input before (Ok l) after
-taken input before after l made e p b f =
-    let is : day_part input (room_of before) ≡ Ok made = day_ok (day_part input (room_of before)) made e in
+pub taken : (input : List ℕ) (before after : Tables) (l : Loaded) (made : Plan) → day_part input (room_of before) ≡ Ok made → Planned input (room_of before) made → Begins input made l.day.figures l.events.bytes.now l.events.line → after ≡ filled_by made input before → Load input before (Ok l) after
+taken input before after l made is p b f =
     let d = day_read input (room_of before) made is in
     let h : Holds (described input made) after = subst (Holds (described input made)) (sym f) (holds_described input before made p d) in
     record {

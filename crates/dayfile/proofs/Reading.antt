@@ -17,9 +17,11 @@ use Rattle.rules.specs.Prices.{band_percent, band_of_percent}
 use Rattle.rules.specs.Ranges.{in_range, range_of}
 use Rattle.tables.specs.declared.rows.Security.{Security}
 use Rattle.tables.specs.declared.rows.Holding.{Holding}
-use Rattle.tables.specs.declared.rows.AccountHolding.{AccountHolding}
+use Rattle.tables.specs.declared.owner.Participant.{Participant}
+use Rattle.tables.specs.declared.owner.Account.{Account}
 use Rattle.tables.specs.declared.rows.Designation.{Designation}
-use Rattle.tables.specs.Rows.{security_present, holding_present, account_holding_present, designation_present}
+use Rattle.tables.specs.Owners.{participant, account}
+use Rattle.tables.specs.Rows.{security_present, held_bounds, held_present, designation_present}
 use Rattle.fields.specs.declared.fault.FieldFault.{FieldFault}
 use Rattle.fields.specs.Faults.{and_then}
 use Rattle.fields.specs.Layout.{opening, closed, letter_in, letters_of, day_letters, width_of}
@@ -27,8 +29,8 @@ use Rattle.fields.specs.Numbers.{numbers_from, written_line, Within, WrittenAs}
 use Rattle.fields.proofs.Numbers.{by_then}
 use Rattle.fields.proofs.ReadBack.{opened, read_is_written, letter_found, written_wide, written_is_read}
 use Rattle.dayfile.specs.Groups.{starts}
-use Rattle.dayfile.specs.Rows.{line_of, misplaced, named_case, security_of, holding_of, account_holding_of, designation_of}
-use Rattle.dayfile.specs.Description.{security_numbers, holding_numbers, account_holding_numbers, designation_numbers}
+use Rattle.dayfile.specs.Rows.{line_of, misplaced, named_case, security_of, held_of, designation_of}
+use Rattle.dayfile.specs.Description.{security_numbers, held_numbers, holding_numbers, account_holding_numbers, designation_numbers}
 use Rattle.dayfile.specs.Kinds.{security_kind, holding_kind, account_holding_kind, designation_kind}
 use Rattle.dayfile.proofs.Written.{clash, Lined}
 
@@ -125,11 +127,14 @@ pub record Said {X : Type 0} (l : Letter) (make : List ℕ → Result X FieldFau
 abbrev pub GoodSecurity : Security → Type 0
 GoodSecurity s = security_present s ≡ true
 
-abbrev pub GoodHolding : Holding → Type 0
-GoodHolding h = (holding_present h ≡ true) × (h.sellable ≡ h.opening)
+abbrev pub GoodHeld : {O : Type 0} → Quantity → (O → ℕ) → Holding O → Type 0
+GoodHeld numbers number h = (held_present numbers number h ≡ true) × (h.sellable ≡ h.opening)
 
-abbrev pub GoodAccountHolding : AccountHolding → Type 0
-GoodAccountHolding h = (account_holding_present h ≡ true) × (h.sellable ≡ h.opening)
+abbrev pub GoodHolding : Holding Participant → Type 0
+GoodHolding = GoodHeld quantity.Participant (λ p. p.0)
+
+abbrev pub GoodAccountHolding : Holding Account → Type 0
+GoodAccountHolding = GoodHeld quantity.Account (λ a. a.0)
 
 abbrev pub GoodDesignation : Designation → Type 0
 GoodDesignation d = designation_present d ≡ true
@@ -166,39 +171,31 @@ security_said = record {
   back = λ x g. security_back x;
 }
 
-holding_read : (ns : List ℕ) (x : Holding) → Within (letter_rules letter.Holding).fields ns → holding_of ns ≡ Ok x → (ns ≡ holding_numbers x) × GoodHolding x
-holding_read ns x w e =
-    let f = three ns (within_long (letter_rules letter.Holding).fields ns w) in
-    let w3 = subst (Within (letter_rules letter.Holding).fields) f w in
-    let q : record { participant = get_or ns 0 0; code = get_or ns 1 0; opening = get_or ns 2 0; sellable = get_or ns 2 0 } ≡ x = cc in
-    (f ∙ ap holding_numbers q, subst GoodHolding q (rw (w3.0, w3.1.0, w3.1.1.0) (le-leb (get_or ns 2 0) (get_or ns 2 0) (omega arith)), refl))
+-- the holdings of owners that have such numbers
+module _ {O : Type 0} (l : Letter) (numbers : Quantity) (owner : ℕ → O) (number : O → ℕ) (fields : (letter_rules l).fields ≡ numbers ∷ (quantity.Code ∷ (quantity.Holding ∷ []))) (back : (n : ℕ) → number (owner n) ≡ n) (forth : (o : O) → owner (number o) ≡ o) where
+  held_read : (ns : List ℕ) (x : Holding O) → Within (letter_rules l).fields ns → held_of owner ns ≡ Ok x → (ns ≡ held_numbers number x) × GoodHeld numbers number x
+  held_read ns x within e =
+      let w = subst (λ qs. Within qs ns) fields within in
+      let f = three ns (within_long (numbers ∷ (quantity.Code ∷ (quantity.Holding ∷ []))) ns w) in
+      let w3 = subst (Within (numbers ∷ (quantity.Code ∷ (quantity.Holding ∷ [])))) f w in
+      let q : record { owner = owner (get_or ns 0 0); code = get_or ns 1 0; opening = get_or ns 2 0; sellable = get_or ns 2 0 } ≡ x = cc in (
+        f ∙ ap (λ (n : ℕ). n ∷ (get_or ns 1 0 ∷ (get_or ns 2 0 ∷ []))) (sym (back (get_or ns 0 0))) ∙ ap (held_numbers number) q,
+        subst (GoodHeld numbers number) q (rw (back (get_or ns 0 0), w3.0, w3.1.0, w3.1.1.0) (le-leb (get_or ns 2 0) (get_or ns 2 0) (omega arith)), refl),
+      )
 
-holding_said : Said letter.Holding holding_of holding_numbers GoodHolding
-holding_said = record {
-  read = holding_read;
-  within = λ x g. holding_within x g.0;
-  back = λ x g. ap (λ (n : ℕ). Ok (record { participant = x.participant; code = x.code; opening = x.opening; sellable = n })) (sym g.1);
-}
-  where
-    holding_within : (x : Holding) → holding_present x ≡ true → Within (letter_rules letter.Holding).fields (holding_numbers x)
-    holding_within x g = let a = and_parts _ _ g in let b = and_parts _ _ a.0 in let c = and_parts _ _ b.0 in (c.0, (c.1, (b.1, tt)))
+  held_within : (x : Holding O) → held_present numbers number x ≡ true → Within (letter_rules l).fields (held_numbers number x)
+  held_within x g =
+      let a = and_parts (held_bounds numbers number x) _ g in
+      let b = and_parts _ _ a.0 in
+      let c = and_parts _ _ b.0 in
+      subst (λ qs. Within qs (held_numbers number x)) (sym fields) (c.0, (c.1, (b.1, tt)))
 
-account_holding_read : (ns : List ℕ) (x : AccountHolding) → Within (letter_rules letter.AccountHolding).fields ns → account_holding_of ns ≡ Ok x → (ns ≡ account_holding_numbers x) × GoodAccountHolding x
-account_holding_read ns x w e =
-    let f = three ns (within_long (letter_rules letter.AccountHolding).fields ns w) in
-    let w3 = subst (Within (letter_rules letter.AccountHolding).fields) f w in
-    let q : record { account = get_or ns 0 0; code = get_or ns 1 0; opening = get_or ns 2 0; sellable = get_or ns 2 0 } ≡ x = cc in
-    (f ∙ ap account_holding_numbers q, subst GoodAccountHolding q (rw (w3.0, w3.1.0, w3.1.1.0) (le-leb (get_or ns 2 0) (get_or ns 2 0) (omega arith)), refl))
-
-account_holding_said : Said letter.AccountHolding account_holding_of account_holding_numbers GoodAccountHolding
-account_holding_said = record {
-  read = account_holding_read;
-  within = λ x g. account_holding_within x g.0;
-  back = λ x g. ap (λ (n : ℕ). Ok (record { account = x.account; code = x.code; opening = x.opening; sellable = n })) (sym g.1);
-}
-  where
-    account_holding_within : (x : AccountHolding) → account_holding_present x ≡ true → Within (letter_rules letter.AccountHolding).fields (account_holding_numbers x)
-    account_holding_within x g = let a = and_parts _ _ g in let b = and_parts _ _ a.0 in let c = and_parts _ _ b.0 in (c.0, (c.1, (b.1, tt)))
+  held_said : Said l (held_of owner) (held_numbers number) (GoodHeld numbers number)
+  held_said = record {
+    read = held_read;
+    within = λ x g. held_within x g.0;
+    back = λ x g. ap (λ (o : O). Ok (record { owner = o; code = x.code; opening = x.opening; sellable = x.opening })) (forth x.owner) ∙ ap (λ (n : ℕ). Ok (record { owner = x.owner; code = x.code; opening = x.opening; sellable = n })) (sym g.1);
+  }
 
 designation_read : (ns : List ℕ) (x : Designation) → Within (letter_rules letter.Designation).fields ns → designation_of ns ≡ Ok x → (ns ≡ designation_numbers x) × GoodDesignation x
 designation_read ns x w e =
@@ -238,10 +235,10 @@ pub security_lined : Lined security_kind (λ s. written_line letter.Security (se
 security_lined = row_lined letter.Security security_of security_numbers GoodSecurity security_said refl security_kind.first security_kind.step
 
 pub holding_lined : Lined holding_kind (λ h. written_line letter.Holding (holding_numbers h)) GoodHolding
-holding_lined = row_lined letter.Holding holding_of holding_numbers GoodHolding holding_said refl holding_kind.first holding_kind.step
+holding_lined = row_lined letter.Holding (held_of participant) holding_numbers GoodHolding (held_said letter.Holding quantity.Participant participant (λ p. p.0) refl (λ n. refl) (λ p. refl)) refl holding_kind.first holding_kind.step
 
 pub account_holding_lined : Lined account_holding_kind (λ h. written_line letter.AccountHolding (account_holding_numbers h)) GoodAccountHolding
-account_holding_lined = row_lined letter.AccountHolding account_holding_of account_holding_numbers GoodAccountHolding account_holding_said refl account_holding_kind.first account_holding_kind.step
+account_holding_lined = row_lined letter.AccountHolding (held_of account) account_holding_numbers GoodAccountHolding (held_said letter.AccountHolding quantity.Account account (λ a. a.0) refl (λ n. refl) (λ a. refl)) refl account_holding_kind.first account_holding_kind.step
 
 pub designation_lined : Lined designation_kind (λ d. written_line letter.Designation (designation_numbers d)) GoodDesignation
 designation_lined = row_lined letter.Designation designation_of designation_numbers GoodDesignation designation_said refl designation_kind.first designation_kind.step

@@ -10,7 +10,6 @@ use Rattle.fields.specs.Faults.{and_then, line_at}
 use Rattle.fields.specs.Layout.{width_of}
 use Rattle.dayfile.specs.declared.plan.Opening.{Opening}
 use Rattle.dayfile.specs.declared.plan.Counts.{Counts}
-use Rattle.dayfile.specs.declared.plan.Plan.{Plan}
 use Rattle.dayfile.specs.Groups.{Lines, group}
 use Rattle.dayfile.specs.Kinds.{security_kind, holding_kind, account_holding_kind, designation_kind}
 use Rattle.dayfile.specs.Rows.{line_of}
@@ -63,6 +62,14 @@ ending_of c ns =
 abbrev pub counts : ℕ → ℕ → ℕ → ℕ → Counts
 counts s p a g = record { securities = s; holdings = p; account_holdings = a; designations = g }
 
+-- What a day part says: its opening, how many lines its groups have, and where the events begin, by their place in the
+-- input and the number of their first line.
+pub record Plan : Type 0 where
+  pub opening : Opening
+  pub counts : Counts
+  pub events : ℕ
+  pub line : ℕ
+
 -- The plan of an opening and so many lines of each letter.
 abbrev pub plan : Opening → Counts → Plan
 plan o c = record { opening = o; counts = c; events = events_at c; line = end_line c + 1 }
@@ -78,11 +85,15 @@ day_part input room =
     and_then (line_at (slice_index (drop (end_at (counts s p a g)) input) 0) (end_line (counts s p a g)) (line_of letter.End (ending_of (counts s p a g)) (drop (end_at (counts s p a g)) input))) (λ _.
     Ok (plan o (counts s p a g))))))))
 
+-- What a day opens with is in range.
+pub record InRange (o : Opening) : Type 0 where
+  pub market : in_range (range_of quantity.Market) o.market ≡ true
+  pub date : in_range (range_of quantity.Date) o.date ≡ true
+  pub quota : in_range (range_of quantity.Quota) o.quota ≡ true
+
 -- The lines of a day part stand whole in the input and fit the tables, and what it opens with is in range.
 pub record Planned (input : List ℕ) (room : Counts) (made : Plan) : Type 0 where
-  pub market : in_range (range_of quantity.Market) made.opening.market ≡ true
-  pub date : in_range (range_of quantity.Date) made.opening.date ≡ true
-  pub quota : in_range (range_of quantity.Quota) made.opening.quota ≡ true
+  pub opening : InRange made.opening
   pub securities : Lines security_kind room.securities securities_at input made.counts.securities
   pub holdings : Lines holding_kind room.holdings (holdings_at made.counts) input made.counts.holdings
   pub account_holdings : Lines account_holding_kind room.account_holdings (account_holdings_at made.counts) input made.counts.account_holdings

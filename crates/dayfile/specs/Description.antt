@@ -7,15 +7,16 @@ use Rattle.rules.specs.Letters.{letter_rules}
 use Rattle.rules.specs.Prices.{band_percent}
 use Rattle.tables.specs.declared.rows.Security.{Security}
 use Rattle.tables.specs.declared.rows.Holding.{Holding}
-use Rattle.tables.specs.declared.rows.AccountHolding.{AccountHolding}
+use Rattle.tables.specs.declared.owner.Participant.{Participant}
+use Rattle.tables.specs.declared.owner.Account.{Account}
 use Rattle.tables.specs.declared.rows.Designation.{Designation}
 use Rattle.lookup.specs.Lookup.{Rising}
-use Rattle.lookup.specs.Orders.{number_order, pair_order}
+use Rattle.std.specs.Ordering.{nat_cmp}
+use Rattle.lookup.specs.Orders.{pair_order}
 use Rattle.tables.specs.Rows.{security_key, holding_key, account_holding_key, designation_key}
 use Rattle.fields.specs.Numbers.{Within, written_line}
 use Rattle.dayfile.specs.declared.plan.Counts.{Counts}
-use Rattle.dayfile.specs.declared.plan.Plan.{Plan}
-use Rattle.dayfile.specs.DayPart.{account_holdings_at, counts, designations_at, holdings_at, plan, securities_at}
+use Rattle.dayfile.specs.DayPart.{Plan, account_holdings_at, counts, designations_at, holdings_at, plan, securities_at}
 use Rattle.dayfile.specs.Groups.{rows_of}
 use Rattle.dayfile.specs.Kinds.{most_named, security_kind, holding_kind, account_holding_kind, designation_kind}
 
@@ -25,8 +26,8 @@ pub record Description : Type 0 where
   pub date : ℕ
   pub quota : ℕ
   pub securities : List Security
-  pub holdings : List Holding
-  pub account_holdings : List AccountHolding
+  pub holdings : List (Holding Participant)
+  pub account_holdings : List (Holding Account)
   pub designations : List Designation
 
 -- The numbers of a security's line.
@@ -34,12 +35,16 @@ abbrev pub security_numbers : Security → List ℕ
 security_numbers s = s.code ∷ ((buying_rules s.buying).number ∷ (s.close ∷ (band_percent s.band ∷ [])))
 
 -- The numbers of a holding's line.
-abbrev pub holding_numbers : Holding → List ℕ
-holding_numbers h = h.participant ∷ (h.code ∷ (h.opening ∷ []))
+abbrev pub held_numbers : {O : Type 0} → (O → ℕ) → Holding O → List ℕ
+held_numbers number h = number h.owner ∷ (h.code ∷ (h.opening ∷ []))
 
--- The numbers of an account holding's line.
-abbrev pub account_holding_numbers : AccountHolding → List ℕ
-account_holding_numbers h = h.account ∷ (h.code ∷ (h.opening ∷ []))
+-- The numbers of a participant's holding.
+abbrev pub holding_numbers : Holding Participant → List ℕ
+holding_numbers = held_numbers (λ p. p.0)
+
+-- The numbers of an account's holding.
+abbrev pub account_holding_numbers : Holding Account → List ℕ
+account_holding_numbers = held_numbers (λ a. a.0)
 
 -- The numbers of a designation's line.
 abbrev pub designation_numbers : Designation → List ℕ
@@ -76,7 +81,7 @@ named_by account (d ∷ ds) = cond (d.account == account) 1 0 + named_by account
 -- names too many participants.
 pub record WellFormed (d : Description) : Type 0 where
   pub opening : Within (letter_rules letter.Day).fields (opening_numbers d)
-  pub securities : Rising number_order (map security_key d.securities)
+  pub securities : Rising nat_cmp (map security_key d.securities)
   pub holdings : Rising pair_order (map holding_key d.holdings)
   pub holdings_fresh : AllByRecursion (λ h. h.sellable ≡ h.opening) d.holdings
   pub account_holdings : Rising pair_order (map account_holding_key d.account_holdings)

@@ -3,6 +3,7 @@ use Rattle.std.specs.Prelude.{◌≡◌, ℕ, zero, suc, ◌+◌, ◌*◌, ◌<�
 use Rattle.rules.specs.declared.letter.Letter.{Letter}
 use Rattle.rules.specs.declared.refusal.Refusal.TheVariants as refusal
 use Rattle.rules.specs.Letters.{letter_rules}
+use Rattle.tables.specs.Tables.{Lent}
 use Rattle.fields.specs.declared.fault.FieldFault.{FieldFault}
 use Rattle.fields.specs.declared.fault.LineFault.{LineFault}
 use Rattle.fields.specs.Faults.{and_then, line_at}
@@ -56,3 +57,7 @@ pub record Lines {R S : Type 0} (kind : Kind R S) (room at : ℕ) (input : List 
   pub few : n ≤ room
   pub within : at + width_of kind.letter * n ≤ length input
   pub good : (i : ℕ) → i < n → is_ok (kind.reads (drop (width_of kind.letter * i) (drop at input))) ≡ true
+
+-- A table whose lines are the next n lines of the kind, and whose rows past them are as they were.
+abbrev pub filled : {R S : Type 0} → Kind R S → ℕ → List ℕ → Lent R → Lent R
+filled kind n input old = record { rows = rows_of kind n input ++ drop n old.rows; count = n }

@@ -1,13 +1,5 @@
 -- The lent tables before and after a load.
-use Rattle.std.specs.Prelude.{◌≡◌, ℕ, ◌+◌, ◌≤◌, true, List, ◌++◌, length, take, drop, is_ok, IfOk, Ok, Err, Result, MatchResult}
-use Rattle.tables.specs.declared.rows.Security.{Security}
-use Rattle.tables.specs.declared.rows.Holding.{Holding}
-use Rattle.tables.specs.declared.rows.AccountHolding.{AccountHolding}
-use Rattle.tables.specs.declared.rows.Designation.{Designation}
-use Rattle.tables.specs.declared.security_list.SecurityList.{SecurityList}
-use Rattle.tables.specs.declared.holdings.Holdings.{Holdings}
-use Rattle.tables.specs.declared.account_holdings.AccountHoldings.{AccountHoldings}
-use Rattle.tables.specs.declared.designations.Designations.{Designations}
+use Rattle.std.specs.Prelude.{◌≡◌, ℕ, ◌+◌, ◌≤◌, true, List, length, drop, is_ok, IfOk, Ok, Err, Result, MatchResult}
 use Rattle.rules.specs.declared.letter.Part.TheVariants as part
 use Rattle.fields.specs.declared.fault.DayFault.{DayFault}
 use Rattle.fields.specs.Faults.{day_at}
@@ -18,44 +10,16 @@ use Rattle.registers.specs.Meaning.{Fresh}
 use Rattle.registers.specs.Registers.{participant_meaning, account_meaning}
 use Rattle.dayfile.specs.declared.loaded.Loaded.{Loaded}
 use Rattle.dayfile.specs.declared.plan.Counts.{Counts}
-use Rattle.dayfile.specs.declared.plan.Plan.{Plan}
-use Rattle.dayfile.specs.DayPart.{account_holdings_at, counts, day_part, designations_at, holdings_at, securities_at}
+use Rattle.dayfile.specs.declared.lent.Tables.{Tables}
+use Rattle.tables.specs.Tables.{lines_of}
+use Rattle.dayfile.specs.DayPart.{Plan, account_holdings_at, counts, day_part, designations_at, holdings_at, securities_at}
 use Rattle.dayfile.specs.Description.{Describes, Description}
-use Rattle.dayfile.specs.Groups.{Kind, rows_of}
+use Rattle.dayfile.specs.Groups.{filled}
 use Rattle.dayfile.specs.Kinds.{security_kind, holding_kind, account_holding_kind, designation_kind}
-
--- A lent table: all of its rows, and how many of them, from the first on, are its lines.
-pub record Lent (R : Type 0) : Type 0 where
-  pub rows : List R
-  pub count : ℕ
-
--- A table's lines.
-abbrev pub lines_of : {R : Type 0} → Lent R → List R
-lines_of t = take t.count t.rows
-
--- The four lent tables of a day.
-pub record Tables : Type 0 where
-  pub securities : Lent Security
-  pub holdings : Lent Holding
-  pub account_holdings : Lent AccountHolding
-  pub designations : Lent Designation
-
--- The tables by their owners.
-abbrev pub tables_of : SecurityList → Holdings → AccountHoldings → Designations → Tables
-tables_of s p a g = record {
-  securities = record { rows = s.rows.now; count = s.count };
-  holdings = record { rows = p.rows.now; count = p.count };
-  account_holdings = record { rows = a.rows.now; count = a.count };
-  designations = record { rows = g.rows.now; count = g.count };
-}
 
 -- How many rows each table has room for.
 abbrev pub room_of : Tables → Counts
 room_of t = counts (length t.securities.rows) (length t.holdings.rows) (length t.account_holdings.rows) (length t.designations.rows)
-
--- A table whose lines are the next n lines of the kind, and whose rows past them are as they were.
-abbrev pub filled : {R S : Type 0} → Kind R S → ℕ → List ℕ → Lent R → Lent R
-filled kind n input old = record { rows = rows_of kind n input ++ drop n old.rows; count = n }
 
 -- The tables after a day part is loaded.
 abbrev pub filled_by : Plan → List ℕ → Tables → Tables
@@ -72,12 +36,12 @@ loaded (Ok made) input t = filled_by made input t
 loaded (Err f) input t = t
 
 -- The day opens as the D line says, and the events begin after the E line, inside the input.
-pub record Begins (input : List ℕ) (made : Plan) (figures : Figures) (events line : ℕ) : Type 0 where
+pub record Begins (input : List ℕ) (made : Plan) (figures : Figures) (events : List ℕ) (line : ℕ) : Type 0 where
   pub opened : OpenedBy made.opening.market made.opening.date made.opening.quota figures
-  pub events_begin : events ≡ made.events
+  pub events_begin : events ≡ drop made.events input
   pub first_line : line ≡ made.line
-  pub inside : events ≤ length input
-  pub few_lines : line ≤ events + 1
+  pub inside : made.events ≤ length input
+  pub few_lines : line ≤ made.events + 1
 
 -- The tables hold the lines of the description, and registers over them are fresh.
 pub record Holds (d : Description) (t : Tables) : Type 0 where
@@ -92,7 +56,7 @@ pub record Holds (d : Description) (t : Tables) : Type 0 where
 pub record Load (input : List ℕ) (before : Tables) (r : Result Loaded (LoadingDay × DayFault)) (after : Tables) : Type 0 where
   -- the answer is what the day part says, or its first fault
   pub answers : MatchResult r
-      (λ l. (made : Plan) × (day_part input (room_of before) ≡ Ok made) × Begins input made l.day.figures l.events l.line)
+      (λ l. (made : Plan) × (day_part input (room_of before) ≡ Ok made) × Begins input made l.day.figures l.events.bytes.now l.events.line)
       (λ back. day_at part.Day (day_part input (room_of before)) ≡ Err back.1)
   -- the tables hold the file's lines and then what they held there, or stay as they were
   pub leaves : after ≡ loaded (day_part input (room_of before)) input before

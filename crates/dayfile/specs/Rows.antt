@@ -7,7 +7,9 @@ use Rattle.rules.specs.Letters.{letter_rules}
 use Rattle.rules.specs.Prices.{band_of_percent}
 use Rattle.tables.specs.declared.rows.Security.{Security}
 use Rattle.tables.specs.declared.rows.Holding.{Holding}
-use Rattle.tables.specs.declared.rows.AccountHolding.{AccountHolding}
+use Rattle.tables.specs.declared.owner.Participant.{Participant}
+use Rattle.tables.specs.declared.owner.Account.{Account}
+use Rattle.tables.specs.Owners.{participant, account}
 use Rattle.tables.specs.declared.rows.Designation.{Designation}
 use Rattle.fields.specs.declared.fault.FieldFault.{FieldFault}
 use Rattle.fields.specs.Faults.{and_then}
@@ -26,13 +28,17 @@ security_of ns =
     and_then (named_case 50 (band_of_percent (slice_index ns 3))) (λ band.
     Ok (record { code = slice_index ns 0; buying = buying; close = slice_index ns 2; band = band })))
 
--- The row of a P line's numbers: all of the shares may be sold.
-abbrev pub holding_of : List ℕ → Result Holding FieldFault
-holding_of ns = Ok (record { participant = slice_index ns 0; code = slice_index ns 1; opening = slice_index ns 2; sellable = slice_index ns 2 })
+-- The row of the numbers of an owner's holding: all of the shares may be sold.
+abbrev pub held_of : {O : Type 0} → (ℕ → O) → List ℕ → Result (Holding O) FieldFault
+held_of owner ns = Ok (record { owner = owner (slice_index ns 0); code = slice_index ns 1; opening = slice_index ns 2; sellable = slice_index ns 2 })
 
--- The row of an A line's numbers: all of the shares may be sold.
-abbrev pub account_holding_of : List ℕ → Result AccountHolding FieldFault
-account_holding_of ns = Ok (record { account = slice_index ns 0; code = slice_index ns 1; opening = slice_index ns 2; sellable = slice_index ns 2 })
+-- The row of a P line's numbers.
+abbrev pub holding_of : List ℕ → Result (Holding Participant) FieldFault
+holding_of = held_of participant
+
+-- The row of an A line's numbers.
+abbrev pub account_holding_of : List ℕ → Result (Holding Account) FieldFault
+account_holding_of = held_of account
 
 -- The row of a G line's numbers.
 abbrev pub designation_of : List ℕ → Result Designation FieldFault

@@ -1,15 +1,16 @@
 ghost use Rattle.std.specs.Prelude.{◌≡◌, ℕ, ◌+◌, ◌-◌, ◌*◌, ◌<◌, ◌≤◌, true, false, List, ◌++◌, length, drop, IfSome, is_ok, IfOk, Ok};
 ghost use Rattle.fields.specs.Layout.{width_of};
-ghost use Rattle.dayfile.specs.Groups.{Kind, Lines, following, group, rows_of, starts, turn};
+ghost use Rattle.dayfile.specs.Groups.{Kind, Lines, filled, following, group, starts, turn};
 
 use fields::fault::{FieldFault, LineFault, beside};
-use fields::line::line_width;
+use fields::rest::Rest;
+use lookup::key::Row;
 use rules::letter::Letter;
 use rules::refusal::Refusal;
 use tables::table::Table;
 
 // A kind of line whose rows fill a table.
-pub(crate) trait Entry: Copy {
+pub(crate) trait Entry: Row + Copy {
     type State: Copy;
 
     ghost kind: { Kind Self Self.State };
@@ -45,20 +46,15 @@ fn opens(line: &[u8], letter: Letter) -> bool
 }
 
 // What is known after the next line of a group: none where the group is over.
-fn next<R: Entry>(
-    rest: &[u8],
-    state: R::State,
-    line: u64,
-    full: bool,
-) -> Result<Option<R::State>, LineFault>
-    ensures is { result ≡ turn R.Entry.kind full state line rest.now }
-    ensures good { IfOk result (λ o. IfSome o (λ t. (is_ok (R.Entry.kind.reads rest.now) ≡ true) × (full ≡ false))) }
+fn next<R: Entry>(rest: &Rest, state: R::State, full: bool) -> Result<Option<R::State>, LineFault>
+    ensures is { result ≡ turn R.Entry.kind full state rest.now.line rest.now.bytes.now }
+    ensures good { IfOk result (λ o. IfSome o (λ t. (is_ok (R.Entry.kind.reads rest.now.bytes.now) ≡ true) × (full ≡ false))) }
 {
     let letter = R::letter();
-    if !opens(rest, letter) {
+    if !opens(rest.bytes, letter) {
         return Ok(None);
     }
-    let after = beside(follow::<R>(rest, state), letter.byte(), line)?;
+    let after = beside(follow::<R>(rest.bytes, state), letter.byte(), rest.line)?;
     if full {
         return Err(LineFault {
             field: FieldFault {
@@ -66,48 +62,40 @@ fn next<R: Entry>(
                 column: 1,
             },
             letter: letter.byte(),
-            line,
+            line: rest.line,
         });
     }
     Ok(Some(after))
 }
 
-// How many lines of the kind follow one another from a place of the input on, if the table has room for them.
-pub(crate) fn counted<R: Entry>(
-    input: &[u8],
-    at: usize,
-    line: u64,
-    room: usize,
-) -> Result<usize, LineFault>
-    requires { (at ≤ length input.now) × (line ≤ at + 1) }
-    ensures is { result ≡ group R.Entry.kind room 0 R.Entry.kind.first line (drop at input.now) }
-    ensures lines { IfOk result (λ n. Lines R.Entry.kind room at input.now n) }
+// How many lines of the kind follow one another, if the table has room for them; goes past them.
+pub(crate) fn counted<R: Entry>(rest: &mut Rest, room: usize) -> Result<usize, LineFault>
+    ensures is { result ≡ group R.Entry.kind room 0 R.Entry.kind.first rest.old.line rest.old.bytes.now }
+    ensures lines { IfOk result (λ n. Lines R.Entry.kind room 0 rest.old.bytes.now n) }
+    ensures passed { IfOk result (λ n. rest.new.bytes.now ≡ drop (width_of R.Entry.kind.letter * n) rest.old.bytes.now) }
+    ensures numbered { IfOk result (λ n. rest.new.line ≡ rest.old.line + n) }
 {
-    let span = line_width(R::letter());
     let mut n = 0;
-    let mut from = at;
     let mut state = R::first();
-    'lines: while let Some(after) = next::<R>(&input[from..], state, line + n as u64, n == room)? {
+    'lines: while let Some(after) = next::<R>(rest, state, n == room)? {
         state = after;
         n += 1;
-        from += span;
+        rest.pass(R::letter());
     }
     Ok(n)
 }
 
-// Makes the rows of n lines the lines of a table.
-pub(crate) fn fill<R: Entry, T: Table<Row = R>>(table: &mut T, input: &[u8], at: usize, n: usize)
-    requires { Lines R.Entry.kind (length (T.Table.rows table.old)) at input.now n }
-    ensures rows { T.Table.rows table.new ≡ rows_of R.Entry.kind n (drop at input.now) ++ drop n (T.Table.rows table.old) }
-    ensures count { T.Table.count table.new ≡ n }
+// Makes the rows of n lines the lines of a table; goes past them.
+pub(crate) fn fill<R: Entry>(table: &mut Table<R>, rest: &mut Rest, n: usize)
+    requires { Lines R.Entry.kind (length table.old.rows) 0 rest.old.bytes.now n }
+    ensures filled { table.new ≡ filled R.Entry.kind n rest.old.bytes.now table.old }
+    ensures passed { rest.new.bytes.now ≡ drop (width_of R.Entry.kind.letter * n) rest.old.bytes.now }
 {
     table.clear();
-    let span = line_width(R::letter());
-    let mut from = at;
-    for i in 0..n {
-        if let Ok(row) = R::read(&input[from..]) {
+    for _ in 0..n {
+        if let Ok(row) = R::read(rest.bytes) {
             let _ = table.push(row);
         }
-        from += span;
+        rest.pass(R::letter());
     }
 }

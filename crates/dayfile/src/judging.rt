@@ -1,32 +1,29 @@
-ghost use Rattle.std.specs.Prelude.{◌≡◌, ℕ, ◌+◌, ◌*◌, ◌≤◌, true, length, IfOk, OnOk};
+ghost use Rattle.std.specs.Prelude.{◌≡◌, ℕ, ◌+◌, ◌*◌, ◌≤◌, true, length, drop, Ok, Err, IfOk, MatchResult, OnOk, slice_index};
 ghost use Rattle.rules.specs.declared.letter.Letter.TheVariants as letter;
 ghost use Rattle.rules.specs.declared.letter.Part.TheVariants as part;
 ghost use Rattle.rules.specs.declared.range.Quantity.TheVariants as quantity;
 ghost use Rattle.rules.specs.Ranges.{in_range, range_of};
-ghost use Rattle.fields.specs.Faults.{day_at};
+ghost use Rattle.fields.specs.Faults.{day_at, line_at};
+ghost use Rattle.fields.specs.Layout.{width_of};
 ghost use Rattle.dayfile.specs.Rows.{line_of};
-ghost use Rattle.dayfile.specs.DayPart.{agreed, day_part, ending_of, opening_of, Planned};
+ghost use Rattle.dayfile.specs.DayPart.{agreed, day_part, end_line, ending_of, events_at, InRange, opening_of, plan, Planned};
 
 use super::group::counted;
-use super::plan::{
-    ACCOUNT_HOLDING_LINE, Counts, DAY_LINE, DESIGNATION_LINE, END_LINE, HOLDING_LINE, Opening,
-    Plan, SECURITY_LINE,
-};
+use super::plan::{Counts, Opening, Plan};
 use super::rows::out_of_group;
 use fields::fault::{DayFault, FieldFault, LineFault, beside, in_part};
 use fields::line::{DayLine, first_byte};
-use rules::letter::Part;
+use fields::rest::Rest;
+use rules::letter::{Letter, Part};
 use rules::range::Quantity;
 use rules::refusal::Refusal;
-use tables::rows::{AccountHolding, Designation, Holding, Security};
+use tables::rows::{AccountHolding, Designation, ParticipantHolding, Security};
 
 // What the first line says, which has to be a D line.
 fn opening(line: &[u8]) -> Result<Opening, FieldFault>
     ensures is { result ≡ line_of letter.Day opening_of line.now }
     ensures long { OnOk result (50 ≤ length line.now) }
-    ensures market { IfOk result (λ o. in_range (range_of quantity.Market) o.market ≡ true) }
-    ensures date { IfOk result (λ o. in_range (range_of quantity.Date) o.date ≡ true) }
-    ensures quota { IfOk result (λ o. in_range (range_of quantity.Quota) o.quota ≡ true) }
+    ensures within { IfOk result InRange }
 {
     match DayLine::cut(line)? {
         DayLine::Day {
@@ -86,44 +83,60 @@ fn ending(line: &[u8], file: Counts) -> Result<(), FieldFault>
     }
 }
 
-// The whole day part read once, with nothing written.
-fn planned(input: &[u8], room: Counts) -> Result<Plan, LineFault>
-    ensures is { result ≡ day_part input.now room }
-    ensures planned { IfOk result (λ plan. Planned input.now room plan) }
+// Goes past the first line; answers what it says.
+fn opening_line(rest: &mut Rest) -> Result<Opening, LineFault>
+    ensures is { result ≡ line_at (slice_index rest.old.bytes.now 0) rest.old.line (line_of letter.Day opening_of rest.old.bytes.now) }
+    ensures within { IfOk result InRange }
+    ensures passed { OnOk result (rest.new.bytes.now ≡ drop (width_of letter.Day) rest.old.bytes.now) }
+    ensures whole { OnOk result (width_of letter.Day ≤ length rest.old.bytes.now) }
+    ensures numbered { OnOk result (rest.new.line ≡ rest.old.line + 1) }
 {
-    let opening = beside(opening(input), first_byte(input), 1)?;
-    let securities = counted::<Security>(input, DAY_LINE, 2, room.securities)?;
-    let mut at = DAY_LINE + SECURITY_LINE * securities;
-    let mut line = 2 + securities as u64;
-    let holdings = counted::<Holding>(input, at, line, room.holdings)?;
-    at += HOLDING_LINE * holdings;
-    line += holdings as u64;
-    let account_holdings = counted::<AccountHolding>(input, at, line, room.account_holdings)?;
-    at += ACCOUNT_HOLDING_LINE * account_holdings;
-    line += account_holdings as u64;
-    let designations = counted::<Designation>(input, at, line, room.designations)?;
-    at += DESIGNATION_LINE * designations;
-    line += designations as u64;
+    let opening = beside(opening(rest.bytes), first_byte(rest.bytes), rest.line)?;
+    rest.pass(Letter::Day);
+    Ok(opening)
+}
+
+// Goes past the line after the groups.
+fn ending_line(rest: &mut Rest, file: Counts) -> Result<(), LineFault>
+    ensures is { result ≡ line_at (slice_index rest.old.bytes.now 0) rest.old.line (line_of letter.End (ending_of file) rest.old.bytes.now) }
+    ensures passed { OnOk result (rest.new.bytes.now ≡ drop (width_of letter.End) rest.old.bytes.now) }
+    ensures whole { OnOk result (width_of letter.End ≤ length rest.old.bytes.now) }
+    ensures numbered { OnOk result (rest.new.line ≡ rest.old.line + 1) }
+{
+    beside(ending(rest.bytes, file), first_byte(rest.bytes), rest.line)?;
+    rest.pass(Letter::End);
+    Ok(())
+}
+
+// The whole day part read once, with nothing written.
+fn planned(input: &[u8], room: Counts) -> Result<Plan<'_>, LineFault>
+    ensures is { MatchResult result (λ p. day_part input.now room ≡ Ok (plan p.opening p.counts)) (λ f. day_part input.now room ≡ Err f) }
+    ensures planned { IfOk result (λ p. Planned input.now room (plan p.opening p.counts)) }
+    ensures left { IfOk result (λ p. p.events.bytes.now ≡ drop (events_at p.counts) input.now) }
+    ensures numbered { IfOk result (λ p. p.events.line ≡ end_line p.counts + 1) }
+{
+    let mut rest = Rest::whole(input);
+    let opening = opening_line(&mut rest)?;
     let counts = Counts {
-        securities,
-        holdings,
-        account_holdings,
-        designations,
+        securities: counted::<Security>(&mut rest, room.securities)?,
+        holdings: counted::<ParticipantHolding>(&mut rest, room.holdings)?,
+        account_holdings: counted::<AccountHolding>(&mut rest, room.account_holdings)?,
+        designations: counted::<Designation>(&mut rest, room.designations)?,
     };
-    let end = &input[at..];
-    beside(ending(end, counts), first_byte(end), line)?;
+    ending_line(&mut rest, counts)?;
     Ok(Plan {
         opening,
         counts,
-        events: at + END_LINE,
-        line: line + 1,
+        events: rest,
     })
 }
 
 // Judges the day part: what it says, or its first fault.
-pub(crate) fn judged(input: &[u8], room: Counts) -> Result<Plan, DayFault>
-    ensures is { result ≡ day_at part.Day (day_part input.now room) }
-    ensures planned { IfOk result (λ plan. Planned input.now room plan) }
+pub(crate) fn judged(input: &[u8], room: Counts) -> Result<Plan<'_>, DayFault>
+    ensures is { MatchResult result (λ p. day_part input.now room ≡ Ok (plan p.opening p.counts)) (λ f. day_at part.Day (day_part input.now room) ≡ Err f) }
+    ensures planned { IfOk result (λ p. Planned input.now room (plan p.opening p.counts)) }
+    ensures left { IfOk result (λ p. p.events.bytes.now ≡ drop (events_at p.counts) input.now) }
+    ensures numbered { IfOk result (λ p. p.events.line ≡ end_line p.counts + 1) }
 {
     let plan = in_part(planned(input, room), Part::Day)?;
     Ok(plan)

@@ -1,5 +1,5 @@
 ghost use Rattle.std.specs.Prelude.{◌≡◌};
-ghost use Rattle.lookup.specs.Orders.{pair_order};
+ghost use Rattle.tables.specs.Rows.{pair};
 ghost use Rattle.dayfile.specs.Kinds.{above, naming, named_next, security_kind, holding_kind, account_holding_kind, designation_kind};
 ghost use Rattle.std.proofs.Common.{rules};
 
@@ -10,26 +10,34 @@ use fields::fault::FieldFault;
 use lookup::key::{Key, Pair};
 use rules::letter::Letter;
 use rules::refusal::Refusal;
-use std::cmp::Ordering;
-use tables::rows::{AccountHolding, Designation, Holding, Security};
+use tables::owner::Owner;
+use tables::rows::{AccountHolding, Designation, Holding, ParticipantHolding, Security};
 
 // An account may name so many participants.
 const MOST_NAMED: u64 = 20;
 
 // The key, if it is above the last one.
-fn rising<K: Key + Copy>(last: Option<K>, key: K) -> Result<Option<K>, FieldFault>
-    ensures { result ≡ above K.Key.order last key }
+fn rising<K: Key>(last: Option<K>, key: K) -> Result<Option<K>, FieldFault>
+    ensures { result ≡ above K.cmp last key }
 {
-    if let Some(before) = last {
-        match before.compare(&key) {
-            Ordering::Less => {}
-            _ => return Err(FieldFault {
-                cause: Refusal::Sequence,
-                column: 1,
-            }),
-        }
+    if last.is_none_or(|before| before < key) {
+        Ok(Some(key))
+    } else {
+        Err(FieldFault {
+            cause: Refusal::Sequence,
+            column: 1,
+        })
     }
-    Ok(Some(key))
+}
+
+// The key of a holding.
+fn owned<O: Owner>(row: &Holding<O>) -> Pair
+    ensures { result ≡ pair (O.number row.now.owner) row.now.code }
+{
+    Pair {
+        first: row.owner.number(),
+        second: row.code,
+    }
 }
 
 // The lines of an account after one more, if it may name one more.
@@ -92,7 +100,7 @@ impl Entry for Security {
     }
 }
 
-impl Entry for Holding {
+impl Entry for ParticipantHolding {
     type State = Option<Pair>;
 
     ghost kind = { holding_kind };
@@ -103,7 +111,7 @@ impl Entry for Holding {
         Letter::Holding
     }
 
-    fn read(line: &[u8]) -> Result<Holding, FieldFault> {
+    fn read(line: &[u8]) -> Result<ParticipantHolding, FieldFault> {
         holding(line)
     }
 
@@ -111,14 +119,8 @@ impl Entry for Holding {
         None
     }
 
-    fn step(last: Option<Pair>, row: &Holding) -> Result<Option<Pair>, FieldFault> {
-        rising(
-            last,
-            Pair {
-                first: row.participant,
-                second: row.code,
-            },
-        )
+    fn step(last: Option<Pair>, row: &ParticipantHolding) -> Result<Option<Pair>, FieldFault> {
+        rising(last, owned(row))
     }
 }
 
@@ -142,13 +144,7 @@ impl Entry for AccountHolding {
     }
 
     fn step(last: Option<Pair>, row: &AccountHolding) -> Result<Option<Pair>, FieldFault> {
-        rising(
-            last,
-            Pair {
-                first: row.account,
-                second: row.code,
-            },
-        )
+        rising(last, owned(row))
     }
 }
 

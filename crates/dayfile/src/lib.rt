@@ -4,6 +4,7 @@
 mod group;
 mod judging;
 mod kinds;
+pub mod lent;
 pub mod loaded;
 pub mod loading;
 pub mod plan;

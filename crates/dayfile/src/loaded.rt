@@ -1,8 +1,8 @@
+use fields::rest::Rest;
 use gate::day::TradingDay;
 
-// A day that is loaded: it trades, and its events begin at a place of the input, with a line of this number.
-pub struct Loaded {
+// A day that is loaded: it trades, and its events are what is left of the input.
+pub struct Loaded<'a> {
     pub day: TradingDay,
-    pub events: usize,
-    pub line: u64,
+    pub events: Rest<'a>,
 }

@@ -1,15 +1,4 @@
-// How many bytes a line of each letter takes: its letter, sixteen for each field, a line feed.
-pub(crate) const DAY_LINE: usize = 50;
-
-pub(crate) const SECURITY_LINE: usize = 66;
-
-pub(crate) const HOLDING_LINE: usize = 50;
-
-pub(crate) const ACCOUNT_HOLDING_LINE: usize = 50;
-
-pub(crate) const DESIGNATION_LINE: usize = 34;
-
-pub(crate) const END_LINE: usize = 66;
+use fields::rest::Rest;
 
 // What a D line says.
 #[derive(Clone, Copy, PartialEq, Eq, Debug)]
@@ -28,12 +17,10 @@ pub struct Counts {
     pub designations: usize,
 }
 
-// A day part as it is judged: its opening, how many lines its groups have, and where the events begin, by their place in
-// the input and the number of their first line.
-#[derive(Clone, Copy, PartialEq, Eq, Debug)]
-pub struct Plan {
+// A day part as it is judged: its opening, how many lines its groups have, and what is left for the events.
+#[derive(Drop)]
+pub(crate) struct Plan<'a> {
     pub opening: Opening,
     pub counts: Counts,
-    pub events: usize,
-    pub line: u64,
+    pub events: Rest<'a>,
 }

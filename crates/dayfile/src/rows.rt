@@ -1,14 +1,19 @@
 ghost use Rattle.std.specs.Prelude.{◌≡◌, [], ◌∷◌};
 ghost use Rattle.rules.specs.declared.letter.Letter.TheVariants as letter;
-ghost use Rattle.dayfile.specs.Rows.{security_of, holding_of, account_holding_of, designation_of, out_of_place, misplaced, line_of};
+ghost use Rattle.rules.specs.declared.range.Quantity.TheVariants as quantity;
+ghost use Rattle.fields.specs.Faults.{and_then};
+ghost use Rattle.fields.specs.Reading.{ranging};
+ghost use Rattle.dayfile.specs.Rows.{security_of, held_of, holding_of, account_holding_of, designation_of, out_of_place, misplaced, line_of};
 
 use fields::fault::FieldFault;
+use fields::field::Field;
 use fields::line::DayLine;
 use rules::buying::Buying;
 use rules::price::PriceBand;
 use rules::range::Quantity;
 use rules::refusal::Refusal;
-use tables::rows::{AccountHolding, Designation, Holding, Security};
+use tables::owner::Owner;
+use tables::rows::{AccountHolding, Designation, Holding, ParticipantHolding, Security};
 
 // Judges the fields of a line, whatever its kind.
 fn judge(line: &[u8]) -> Result<(), FieldFault>
@@ -132,7 +137,22 @@ pub(crate) fn security(line: &[u8]) -> Result<Security, FieldFault>
     }
 }
 
-pub(crate) fn holding(line: &[u8]) -> Result<Holding, FieldFault>
+// The holding that the fields of a line give: all of the shares may be sold.
+fn held<O: Owner>(owner: Field, code: Field, shares: Field) -> Result<Holding<O>, FieldFault>
+    ensures { result ≡ and_then (ranging O.NUMBERS owner.entry.bytes.now owner.entry.column) (λ o. and_then (ranging quantity.Code code.entry.bytes.now code.entry.column) (λ c. and_then (ranging quantity.Holding shares.entry.bytes.now shares.entry.column) (λ s. held_of O.of (o ∷ (c ∷ (s ∷ [])))))) }
+{
+    let owner = O::of(owner.ranged(O::NUMBERS)?);
+    let code = code.ranged(Quantity::Code)?;
+    let opening = shares.ranged(Quantity::Holding)?;
+    Ok(Holding {
+        owner,
+        code,
+        opening,
+        sellable: opening,
+    })
+}
+
+pub(crate) fn holding(line: &[u8]) -> Result<ParticipantHolding, FieldFault>
     ensures { result ≡ line_of letter.Holding holding_of line.now }
 {
     match DayLine::cut(line)? {
@@ -140,17 +160,7 @@ pub(crate) fn holding(line: &[u8]) -> Result<Holding, FieldFault>
             participant,
             code,
             shares,
-        } => {
-            let participant = participant.ranged(Quantity::Participant)?;
-            let code = code.ranged(Quantity::Code)?;
-            let shares = shares.ranged(Quantity::Holding)?;
-            Ok(Holding {
-                participant,
-                code,
-                opening: shares,
-                sellable: shares,
-            })
-        }
+        } => held(participant, code, shares),
         _ => Err(out_of_group(line)),
     }
 }
@@ -163,17 +173,7 @@ pub(crate) fn account_holding(line: &[u8]) -> Result<AccountHolding, FieldFault>
             account,
             code,
             shares,
-        } => {
-            let account = account.ranged(Quantity::Account)?;
-            let code = code.ranged(Quantity::Code)?;
-            let shares = shares.ranged(Quantity::Holding)?;
-            Ok(AccountHolding {
-                account,
-                code,
-                opening: shares,
-                sellable: shares,
-            })
-        }
+        } => held(account, code, shares),
         _ => Err(out_of_group(line)),
     }
 }

@@ -4,3 +4,4 @@
 pub mod fault;
 pub mod field;
 pub mod line;
+pub mod rest;

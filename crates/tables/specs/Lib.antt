@@ -1,2 +1,3 @@
+pub mod Owners
 pub mod Rows
 pub mod Tables
