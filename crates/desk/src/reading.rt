@@ -2,25 +2,13 @@ ghost use Rattle.std.specs.Prelude.{◌≡◌, ◌≤◌, length, IfOk, slice_in
 ghost use Rattle.rules.specs.declared.letter.Part.TheVariants as part;
 ghost use Rattle.fields.specs.Faults.{day_at, line_at};
 ghost use Rattle.fields.specs.Layout.{width_of};
-ghost use Rattle.desk.specs.Events.{event_letter, event_of, link_numbered};
+ghost use Rattle.desk.specs.Events.{event_letter, event_of};
 
 use super::event::{Event, Link};
 use fields::fault::{DayFault, FieldFault, LineFault, beside, in_part};
 use fields::line::{EventLine, first_byte};
 use rules::letter::{Letter, Part};
 use rules::range::Quantity;
-use rules::refusal::Refusal;
-
-// The state of the link that a number names.
-fn link_numbered(n: u64) -> Option<Link>
-    ensures { result ≡ link_numbered n }
-{
-    match n {
-        0 => Some(Link::Down),
-        1 => Some(Link::Up),
-        _ => None,
-    }
-}
 
 // The event that the input goes on with.
 fn event(rest: &[u8]) -> Result<Event, FieldFault>
@@ -43,13 +31,11 @@ fn event(rest: &[u8]) -> Result<Event, FieldFault>
                 total,
             })
         }
-        EventLine::Link { state } => match link_numbered(state.ranged(Quantity::Link)?) {
-            Some(state) => Ok(Event::Link { state }),
-            None => Err(FieldFault {
-                cause: Refusal::Range,
-                column: 2,
-            }),
-        },
+        EventLine::Link { state } => {
+            let n = state.ranged(Quantity::Link)?;
+            let state = Link::try_from(n).map_err(|cause| FieldFault { cause, column: 2 })?;
+            Ok(Event::Link { state })
+        }
     }
 }
 
