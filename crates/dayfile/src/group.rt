@@ -2,7 +2,7 @@ ghost use Rattle.std.specs.Prelude.{◌≡◌, ℕ, ◌+◌, ◌-◌, ◌*◌, �
 ghost use Rattle.fields.specs.Layout.{width_of};
 ghost use Rattle.dayfile.specs.Groups.{Kind, Lines, following, group, rows_of, starts, turn};
 
-use fields::fault::{FieldFault, LineFault, beside};
+use fields::fault::{FieldFault, LineFault};
 use fields::line::line_width;
 use rules::letter::Letter;
 use rules::refusal::Refusal;
@@ -58,14 +58,15 @@ fn next<R: Entry>(
     if !opens(rest, letter) {
         return Ok(None);
     }
-    let after = beside(follow::<R>(rest, state), letter.byte(), line)?;
+    let byte = letter.byte();
+    let after = follow::<R>(rest, state).map_err(|f| (f, byte, line))?;
     if full {
         return Err(LineFault {
             field: FieldFault {
                 cause: Refusal::Room,
                 column: 1,
             },
-            letter: letter.byte(),
+            letter: byte,
             line,
         });
     }

@@ -13,7 +13,7 @@ use super::plan::{
     Plan, SECURITY_LINE,
 };
 use super::rows::out_of_group;
-use fields::fault::{DayFault, FieldFault, LineFault, beside, in_part};
+use fields::fault::{DayFault, FieldFault, LineFault};
 use fields::line::{DayLine, first_byte};
 use rules::letter::Part;
 use rules::range::Quantity;
@@ -91,7 +91,8 @@ fn planned(input: &[u8], room: Counts) -> Result<Plan, LineFault>
     ensures is { result ≡ day_part input.now room }
     ensures planned { IfOk result (λ plan. Planned input.now room plan) }
 {
-    let opening = beside(opening(input), first_byte(input), 1)?;
+    let letter = first_byte(input);
+    let opening = opening(input).map_err(|f| (f, letter, 1))?;
     let securities = counted::<Security>(input, DAY_LINE, 2, room.securities)?;
     let mut at = DAY_LINE + SECURITY_LINE * securities;
     let mut line = 2 + securities as u64;
@@ -111,7 +112,8 @@ fn planned(input: &[u8], room: Counts) -> Result<Plan, LineFault>
         designations,
     };
     let end = &input[at..];
-    beside(ending(end, counts), first_byte(end), line)?;
+    let letter = first_byte(end);
+    ending(end, counts).map_err(|f| (f, letter, line))?;
     Ok(Plan {
         opening,
         counts,
@@ -125,6 +127,6 @@ pub(crate) fn judged(input: &[u8], room: Counts) -> Result<Plan, DayFault>
     ensures is { result ≡ day_at part.Day (day_part input.now room) }
     ensures planned { IfOk result (λ plan. Planned input.now room plan) }
 {
-    let plan = in_part(planned(input, room), Part::Day)?;
+    let plan = planned(input, room).map_err(|f| (f, Part::Day))?;
     Ok(plan)
 }

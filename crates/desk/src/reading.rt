@@ -5,7 +5,7 @@ ghost use Rattle.fields.specs.Layout.{width_of};
 ghost use Rattle.desk.specs.Events.{event_letter, event_of};
 
 use super::event::{Event, Link};
-use fields::fault::{DayFault, FieldFault, LineFault, beside, in_part};
+use fields::fault::{DayFault, FieldFault, LineFault};
 use fields::line::{EventLine, first_byte};
 use rules::letter::{Letter, Part};
 use rules::range::Quantity;
@@ -44,7 +44,8 @@ fn numbered_event(rest: &[u8], line: u64) -> Result<Event, LineFault>
     ensures is { result ≡ line_at (slice_index rest.now 0) line (event_of rest.now) }
     ensures long { IfOk result (λ e. width_of (event_letter e) ≤ length rest.now) }
 {
-    let event = beside(event(rest), first_byte(rest), line)?;
+    let letter = first_byte(rest);
+    let event = event(rest).map_err(|f| (f, letter, line))?;
     Ok(event)
 }
 
@@ -53,7 +54,7 @@ pub(crate) fn read_event(rest: &[u8], line: u64) -> Result<Event, DayFault>
     ensures is { result ≡ day_at part.Event (line_at (slice_index rest.now 0) line (event_of rest.now)) }
     ensures long { IfOk result (λ e. width_of (event_letter e) ≤ length rest.now) }
 {
-    let event = in_part(numbered_event(rest, line), Part::Event)?;
+    let event = numbered_event(rest, line).map_err(|f| (f, Part::Event))?;
     Ok(event)
 }
 
