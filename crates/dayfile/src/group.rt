@@ -2,7 +2,7 @@ ghost use Rattle.std.specs.Prelude.{◌≡◌, ℕ, ◌+◌, ◌-◌, ◌*◌, �
 ghost use Rattle.fields.specs.Layout.{width_of};
 ghost use Rattle.dayfile.specs.Groups.{Kind, Lines, filled, following, group, starts, turn};
 
-use fields::fault::{FieldFault, LineFault, beside};
+use fields::fault::{FieldFault, LineFault};
 use fields::rest::Rest;
 use lookup::key::Row;
 use rules::letter::Letter;
@@ -54,15 +54,17 @@ fn next<R: Entry>(rest: &Rest, state: R::State, full: bool) -> Result<Option<R::
     if !opens(rest.bytes, letter) {
         return Ok(None);
     }
-    let after = beside(follow::<R>(rest.bytes, state), letter.byte(), rest.line)?;
+    let byte = letter.byte();
+    let line = rest.line;
+    let after = follow::<R>(rest.bytes, state).map_err(|f| (f, byte, line))?;
     if full {
         return Err(LineFault {
             field: FieldFault {
                 cause: Refusal::Room,
                 column: 1,
             },
-            letter: letter.byte(),
-            line: rest.line,
+            letter: byte,
+            line,
         });
     }
     Ok(Some(after))

@@ -11,7 +11,7 @@ ghost use Rattle.dayfile.specs.DayPart.{agreed, day_part, end_line, ending_of, e
 use super::group::counted;
 use super::plan::{Counts, Opening, Plan};
 use super::rows::out_of_group;
-use fields::fault::{DayFault, FieldFault, LineFault, beside, in_part};
+use fields::fault::{DayFault, FieldFault, LineFault};
 use fields::line::{DayLine, first_byte};
 use fields::rest::Rest;
 use rules::letter::{Letter, Part};
@@ -91,7 +91,8 @@ fn opening_line(rest: &mut Rest) -> Result<Opening, LineFault>
     ensures whole { OnOk result (width_of letter.Day ≤ length rest.old.bytes.now) }
     ensures numbered { OnOk result (rest.new.line ≡ rest.old.line + 1) }
 {
-    let opening = beside(opening(rest.bytes), first_byte(rest.bytes), rest.line)?;
+    let (letter, line) = (first_byte(rest.bytes), rest.line);
+    let opening = opening(rest.bytes).map_err(|f| (f, letter, line))?;
     rest.pass(Letter::Day);
     Ok(opening)
 }
@@ -103,7 +104,8 @@ fn ending_line(rest: &mut Rest, file: Counts) -> Result<(), LineFault>
     ensures whole { OnOk result (width_of letter.End ≤ length rest.old.bytes.now) }
     ensures numbered { OnOk result (rest.new.line ≡ rest.old.line + 1) }
 {
-    beside(ending(rest.bytes, file), first_byte(rest.bytes), rest.line)?;
+    let (letter, line) = (first_byte(rest.bytes), rest.line);
+    ending(rest.bytes, file).map_err(|f| (f, letter, line))?;
     rest.pass(Letter::End);
     Ok(())
 }
@@ -138,6 +140,6 @@ pub(crate) fn judged(input: &[u8], room: Counts) -> Result<Plan<'_>, DayFault>
     ensures left { IfOk result (λ p. p.events.bytes.now ≡ drop (events_at p.counts) input.now) }
     ensures numbered { IfOk result (λ p. p.events.line ≡ end_line p.counts + 1) }
 {
-    let plan = in_part(planned(input, room), Part::Day)?;
+    let plan = planned(input, room).map_err(|f| (f, Part::Day))?;
     Ok(plan)
 }

@@ -97,18 +97,8 @@ pub(crate) fn out_of_group(line: &[u8]) -> FieldFault
 fn listed(code: u64, mode: u64, close: u64, percent: u64) -> Result<Security, FieldFault>
     ensures { result ≡ security_of (code ∷ (mode ∷ (close ∷ (percent ∷ [])))) }
 {
-    let Some(buying) = Buying::numbered(mode) else {
-        return Err(FieldFault {
-            cause: Refusal::Range,
-            column: 18,
-        });
-    };
-    let Some(band) = PriceBand::of_percent(percent) else {
-        return Err(FieldFault {
-            cause: Refusal::Range,
-            column: 50,
-        });
-    };
+    let buying = Buying::try_from(mode).map_err(|cause| FieldFault { cause, column: 18 })?;
+    let band = PriceBand::try_from(percent).map_err(|cause| FieldFault { cause, column: 50 })?;
     Ok(Security {
         code,
         buying,

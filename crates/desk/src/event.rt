@@ -1,8 +1,30 @@
+ghost use Rattle.std.specs.Prelude.{◌≡◌};
+ghost use Rattle.std.specs.Option.{ok_or};
+ghost use Rattle.rules.specs.declared.refusal.Refusal.TheVariants as refusal;
+ghost use Rattle.desk.specs.Events.{link_numbered};
+
+use rules::refusal::Refusal;
+
 // Whether the link to the market is up.
 #[derive(Clone, Copy, PartialEq, Eq, Debug)]
 pub enum Link {
     Down,
     Up,
+}
+
+// The state of the link that a number names.
+impl TryFrom<u64> for Link {
+    type Error = Refusal;
+
+    ghost try_from_gives = { λ n r. r ≡ ok_or (link_numbered n) refusal.Range };
+
+    fn try_from(n: u64) -> Result<Link, Refusal> {
+        match n {
+            0 => Ok(Link::Down),
+            1 => Ok(Link::Up),
+            _ => Err(Refusal::Range),
+        }
+    }
 }
 
 // An event of the trading day, with its numbers.

@@ -2,25 +2,13 @@ ghost use Rattle.std.specs.Prelude.{◌≡◌, ◌≤◌, length, IfOk, slice_in
 ghost use Rattle.rules.specs.declared.letter.Part.TheVariants as part;
 ghost use Rattle.fields.specs.Faults.{day_at, line_at};
 ghost use Rattle.fields.specs.Layout.{width_of};
-ghost use Rattle.desk.specs.Events.{event_letter, event_of, link_numbered};
+ghost use Rattle.desk.specs.Events.{event_letter, event_of};
 
 use super::event::{Event, Link};
-use fields::fault::{DayFault, FieldFault, LineFault, beside, in_part};
+use fields::fault::{DayFault, FieldFault, LineFault};
 use fields::line::{EventLine, first_byte};
 use rules::letter::{Letter, Part};
 use rules::range::Quantity;
-use rules::refusal::Refusal;
-
-// The state of the link that a number names.
-fn link_numbered(n: u64) -> Option<Link>
-    ensures { result ≡ link_numbered n }
-{
-    match n {
-        0 => Some(Link::Down),
-        1 => Some(Link::Up),
-        _ => None,
-    }
-}
 
 // The event that the input goes on with.
 fn event(rest: &[u8]) -> Result<Event, FieldFault>
@@ -43,13 +31,11 @@ fn event(rest: &[u8]) -> Result<Event, FieldFault>
                 total,
             })
         }
-        EventLine::Link { state } => match link_numbered(state.ranged(Quantity::Link)?) {
-            Some(state) => Ok(Event::Link { state }),
-            None => Err(FieldFault {
-                cause: Refusal::Range,
-                column: 2,
-            }),
-        },
+        EventLine::Link { state } => {
+            let n = state.ranged(Quantity::Link)?;
+            let state = Link::try_from(n).map_err(|cause| FieldFault { cause, column: 2 })?;
+            Ok(Event::Link { state })
+        }
     }
 }
 
@@ -58,7 +44,8 @@ fn numbered_event(rest: &[u8], line: u64) -> Result<Event, LineFault>
     ensures is { result ≡ line_at (slice_index rest.now 0) line (event_of rest.now) }
     ensures long { IfOk result (λ e. width_of (event_letter e) ≤ length rest.now) }
 {
-    let event = beside(event(rest), first_byte(rest), line)?;
+    let letter = first_byte(rest);
+    let event = event(rest).map_err(|f| (f, letter, line))?;
     Ok(event)
 }
 
@@ -67,7 +54,7 @@ pub(crate) fn read_event(rest: &[u8], line: u64) -> Result<Event, DayFault>
     ensures is { result ≡ day_at part.Event (line_at (slice_index rest.now 0) line (event_of rest.now)) }
     ensures long { IfOk result (λ e. width_of (event_letter e) ≤ length rest.now) }
 {
-    let event = in_part(numbered_event(rest, line), Part::Event)?;
+    let event = numbered_event(rest, line).map_err(|f| (f, Part::Event))?;
     Ok(event)
 }
 

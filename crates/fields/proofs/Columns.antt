@@ -35,11 +35,10 @@ columns_more w n d p h l =
     cc
 
 -- each byte of a numeral is a digit
-AllDigits : List ℕ → Type 0
+abbrev pub AllDigits : List ℕ → Type 0
 AllDigits ds = (i : ℕ) → i < length ds → (48 ≤ get_or ds i 0) × (get_or ds i 0 ≤ 57)
 
 all_push : (ds : List ℕ) (d : ℕ) → d < 10 → AllDigits ds → AllDigits (ds ++ ((48 + d) ∷ []))
-unfolding AllDigits
 all_push ds d h a i l =
     let t = simp length_push at l in
     ⊎_elim
@@ -47,17 +46,12 @@ all_push ds d h a i l =
     (λ (ge : length ds ≤ i). let e : length ds ≡ i = omega arith in rw (get_or_push ds (48 + d) 0 i e) (omega arith, omega arith))
     (cases_lt i (length ds))
 
-digits_all : (n : ℕ) → n < 2 ^ 64 → AllDigits (decimal n)
-unfolding AllDigits
+pub digits_all : (n : ℕ) → n < 2 ^ 64 → AllDigits (decimal n)
 digits_all n l =
     decimal_by_steps (λ _ ds. AllDigits ds)
     (λ m h i g. let e : i ≡ 0 = omega arith in rw e (omega arith, omega arith))
     (λ m ds h a. all_push ds (m % 10) (omega arith) a)
     n l
-
-pub digit_at : (n : ℕ) → n < 2 ^ 64 → (i : ℕ) → i < length (decimal n) → (48 ≤ get_or (decimal n) i 0) × (get_or (decimal n) i 0 ≤ 57)
-unfolding AllDigits
-digit_at n l = digits_all n l
 
 -- a column is a space, or a digit of the numeral
 pub at_space : (w n i : ℕ) → i < w - length (decimal n) → get_or (in_columns w n) i 0 ≡ 32
@@ -75,7 +69,7 @@ at_digit w n i h = get_or-append_right (replicate (w - length (decimal n)) 32) (
 pub past_space : (n i : ℕ) → n < 10 ^ 16 → i < 16 → 16 - length (decimal n) ≤ i → (48 ≤ get_or (in_columns 16 n) i 0) × (get_or (in_columns 16 n) i 0 ≤ 57)
 past_space n i h l g =
     let a = length-decimal-le 16 n (omega arith) h (omega arith) in
-    rw (at_digit 16 n i g) (digit_at n (omega arith) (i - (16 - length (decimal n))) (omega arith))
+    rw (at_digit 16 n i g) (digits_all n (omega arith) (i - (16 - length (decimal n))) (omega arith))
 
 pub ten_le : (k : ℕ) → k ≤ 16 → 10 ^ k ≤ 10 ^ 16
 ten_le k h = pow-le-pow_right {n = 10} (omega arith) {i = k} {j = 16} h
@@ -87,7 +81,7 @@ after_digits k n m p k0 k16 h hm e =
     let n64 : n < 2 ^ 64 = omega arith in
     let a = length-decimal-le k n k0 h n64 in
     let s = decimal_nonempty n n64 in
-    let dig = digit_at n n64 (k - 1 - (k - length (decimal n))) (omega arith) in
+    let dig = digits_all n n64 (k - 1 - (k - length (decimal n))) (omega arith) in
     let e1 = at_digit k n (k - 1) (omega arith) in
     let e2 : get_or (take k (in_columns 16 m)) (k - 1) 0 ≡ get_or (in_columns 16 m) (k - 1) 0 = get_or-take k (in_columns 16 m) (k - 1) 0 (omega arith) in
     let e3 = ap (λ (xs : List ℕ). get_or xs (k - 1) 0) e in
@@ -118,7 +112,7 @@ after_spaces k m h hm e =
     (λ (is : k ≤ 16 - length (decimal m)).
     let z : k - (16 - length (decimal m)) ≡ 0 = omega arith in
     let at = at_digit 16 m k ge ∙ ap (λ (j : ℕ). get_or (decimal m) j 0) z in
-    let dig = digit_at m m64 0 s in
+    let dig = digits_all m m64 0 s in
     ⊎_elim
     (λ (zero : m < 1).
     let m0 : m ≡ 0 = omega arith in

@@ -1,8 +1,8 @@
 -- A written form is read as its number, and no other number has it.
-use Rattle.std.proofs.Common.{◌≡◌, ℕ, ◌-◌, ◌^◌, ◌<◌, ◌≤◌, Bool, true, false, cond, List, length, get_or, drop, replicate, Ok, Err, decimal, Result, sym, refl, ap, ◌∙◌, subst, ⊎_elim, arith, MatchResult}
+use Rattle.std.proofs.Common.{◌≡◌, ℕ, ◌-◌, ◌^◌, ◌<◌, ◌≤◌, Bool, true, false, cond, List, length, get_or, drop, replicate, Ok, Err, decimal, Result, sym, refl, ap, ◌∙◌, subst, arith, MatchResult}
 use Rattle.std.proofs.lemmas.Fmt.{length-decimal-le, decimal_injective}
 use Rattle.std.proofs.lemmas.List.{drop_at, length-replicate}
-use Rattle.std.proofs.lemmas.Bool.{cases_lt, and_parts, leb-true}
+use Rattle.std.proofs.lemmas.Bool.{and_parts, leb-true}
 use Rattle.rules.specs.declared.range.Quantity.{Quantity}
 use Rattle.rules.specs.declared.range.Quantity.TheVariants as quantity
 use Rattle.rules.specs.declared.range.Range.{Range}
@@ -12,7 +12,6 @@ use Rattle.fields.specs.Written.{in_columns, Spells, RulesOut}
 use Rattle.fields.specs.Scan.{scan}
 use Rattle.fields.specs.Faults.{and_then, beside_of}
 use Rattle.fields.specs.Reading.{digits_fault, bounded, ranging}
-use Rattle.fields.specs.declared.fault.FieldFault.{FieldFault}
 use Rattle.fields.proofs.Columns.{at_space, past_space, length_columns}
 use Rattle.fields.proofs.Meaning.{scan_means}
 
@@ -31,10 +30,9 @@ digits_of n = drop_at (replicate (16 - length (decimal n)) 32) (decimal n) (16 -
 pub columns_same : (m n : ℕ) → m < 10 ^ 16 → n < 10 ^ 16 → in_columns 16 m ≡ in_columns 16 n → m ≡ n
 columns_same m n hm hn e =
     let l : length (decimal m) ≡ length (decimal n) =
-    ⊎_elim (λ (a : length (decimal m) < length (decimal n)). absurd (shorter m n hm hn e a))
-    (λ (a : length (decimal n) ≤ length (decimal m)).
-    ⊎_elim (λ (b : length (decimal n) < length (decimal m)). absurd (shorter n m hn hm (sym e) b)) (λ (b : length (decimal m) ≤ length (decimal n)). omega arith) (cases_lt (length (decimal n)) (length (decimal m))))
-    (cases_lt (length (decimal m)) (length (decimal n))) in
+    let less = shorter m n hm hn e in
+    let more = shorter n m hn hm (sym e) in
+    grind arith in
     let d = sym (digits_of m) ∙ ap (λ (k : ℕ). drop (16 - k) (in_columns 16 m)) l ∙ ap (drop (16 - length (decimal n))) e ∙ digits_of n in
     decimal_injective m n (omega arith) (omega arith) d
 
@@ -77,15 +75,16 @@ ranging_written q n column h =
     ap (λ r. and_then (beside_of r (digits_fault column)) (bounded q column)) (scan_written n (in_range_small q n h))
     ∙ ap (λ b. cond b (Ok n) (Err (record { cause = refusal.Range; column = column }))) h
 
-tested : (b : Bool) (n m : ℕ) (f : FieldFault) → cond b (Ok m) (Err f) ≡ Ok n → (m ≡ n) × (b ≡ true)
-tested true n m f e = (cc, refl)
-tested false n m f e = absurd (let y : ◌≡◌ {A = ℕ} 0 1 = cc in omega arith)
+-- where a test answers a value, it held, and the value is its own
+pub tested : {T E : Type 0} (b : Bool) (x y : T) (f : E) → cond b (Ok x) (Err f) ≡ Ok y → (x ≡ y) × (b ≡ true)
+tested true x y f e = (cc, refl)
+tested false x y f e = grind arith
 
 by_scan : (q : Quantity) (column n : ℕ) (bs : List ℕ) (r : Result ℕ ℕ) → MatchResult r (λ m. Spells bs m) (λ k. RulesOut bs k) → and_then (beside_of r (digits_fault column)) (bounded q column) ≡ Ok n → Spells bs n × (in_range (range_of q) n ≡ true)
 by_scan q column n bs (Ok m) c e =
-    let t = tested (in_range (range_of q) m) n m (record { cause = refusal.Range; column = column }) e in
+    let t = tested (in_range (range_of q) m) m n (record { cause = refusal.Range; column = column }) e in
     subst (λ (x : ℕ). Spells bs x × (in_range (range_of q) x ≡ true)) t.0 (c, t.1)
-by_scan q column n bs (Err k) c e = absurd (let y : ◌≡◌ {A = ℕ} 0 1 = cc in omega arith)
+by_scan q column n bs (Err k) c e = grind arith
 
 -- and what is read is a written form in its range
 pub ranging_spells : (q : Quantity) (column n : ℕ) (bs : List ℕ) → length bs ≡ 16 → ranging q bs column ≡ Ok n → Spells bs n × (in_range (range_of q) n ≡ true)

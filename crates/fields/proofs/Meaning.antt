@@ -1,7 +1,7 @@
 -- The scan says what the written forms say.
 use Rattle.std.proofs.Common.{◌≡◌, ℕ, zero, suc, ◌+◌, ◌-◌, ◌*◌, ◌^◌, ◌<◌, ◌≤◌, cond, ◌&&◌, eqb, ltb, leb, ◌⊎◌, List, [], ◌∷◌, ◌++◌, length, get_or, take, replicate, Some, None, Err, Option, Result, sym, refl, ap, ◌∙◌, subst, inl, inr, ⊎_elim, append_assoc, append-nil, pow-suc, add-one, arith, MatchResult}
 use native.Mathlib.Nat.{pow-le-pow_right}
-use Rattle.std.proofs.lemmas.Bool.{cases_lt, cond_both}
+use Rattle.std.proofs.lemmas.Bool.{cond_both}
 use Rattle.std.proofs.lemmas.Bool.Decides.{nat_tests}
 use Rattle.std.proofs.lemmas.List.{length_push, take_at, take-take, take_all, take-append-le, take-replicate, replicate_more, get_or_at, get_or-take}
 use Rattle.fields.specs.Written.{in_columns, Spells, RulesOut}
@@ -38,6 +38,11 @@ ten_more k = rw (add-one k) (pow-suc 10 k)
 pub pow_pos_ten : (k : ℕ) → 1 ≤ 10 ^ k
 pow_pos_ten k = pow-le-pow_right {n = 10} (omega arith) {i = 0} {j = k} (omega arith)
 
+-- a number that is not 0 takes a column
+some_column : (k n : ℕ) → 0 < n → n < 10 ^ k → 0 < k
+some_column zero n p h = omega arith
+some_column (suc k) n p h = omega arith
+
 -- a number that is not 0 can be filled up to sixteen columns
 completes : (j k n : ℕ) → k + j ≡ 16 → 0 < k → 0 < n → n < 10 ^ k → (m : ℕ) × (m < 10 ^ 16) × (take k (in_columns 16 m) ≡ in_columns k n)
 completes zero k n e k0 p h =
@@ -62,7 +67,7 @@ lead_blank : (pre : List ℕ) (n k : ℕ) → Lead k n pre → n ≡ 0 → k < 1
 lead_blank pre n k lead e h =
     ⊎_elim
     (λ a. inl (e, omega arith, ap (λ (xs : List ℕ). xs ++ (32 ∷ [])) a.2 ∙ replicate_more k 32))
-    (λ a. absurd (⊎_elim (λ (p : 0 < n). omega arith) (λ (q : k ≡ 16). omega arith) a.0))
+    (λ a. grind arith)
     lead
 
 lead_digit : (pre : List ℕ) (n k b : ℕ) → k < 16 → Lead k n pre → 48 ≤ b → b ≤ 57 → (n ≡ 0 → b ≡ 48 → k < 15 → ⊥) → Lead (k + 1) (n * 10 + (b - 48)) (pre ++ (b ∷ []))
@@ -79,12 +84,10 @@ lead_digit pre n k b h lead lo hi nz =
     ∙ ap (λ (x : ℕ). replicate k 32 ++ (x ∷ [])) (sym bb)
     ∙ sym (columns_digit k (b - 48) (omega arith))
     ∙ ap (in_columns (k + 1)) (sym v) in
-    ⊎_elim
-    (λ (z : b < 49). inr (inr (⊎_elim (λ (l : k < 15). absurd (nz a.0 (omega arith) l)) (λ (g : 15 ≤ k). omega arith) (cases_lt k 15)), omega arith, form))
-    (λ (z : 49 ≤ b). inr (inl (omega arith), omega arith, form))
-    (cases_lt b 49))
+    let shown : (0 < n * 10 + (b - 48)) ⊎ (k + 1 ≡ 16) = grind arith in
+    inr (shown, omega arith, form))
     (λ a.
-    let p : 0 < n = ⊎_elim (λ (p : 0 < n). p) (λ (q : k ≡ 16). absurd (omega arith)) a.0 in
+    let p : 0 < n = grind arith in
     let m = columns_more k n (b - 48) p (omega arith) (omega (arith, a.1)) in
     inr (inl (omega arith), omega (arith, a.1), ap (λ (xs : List ℕ). xs ++ (b ∷ [])) a.2 ∙ ap (λ (x : ℕ). in_columns k n ++ (x ∷ [])) (sym bb) ∙ sym m))
     lead
@@ -95,21 +98,11 @@ none_here n k m b pre lp h lead noblank isbad hm e at =
     ⊎_elim
     (λ a.
     let next = after_spaces k m h hm (e ∙ a.2) in
-    ⊎_elim
-    (λ u. noblank a.0 (sym at ∙ u.0) u.1)
-    (λ u. ⊎_elim
-    (λ v. ⊎_elim (λ (w : b < 48). omega arith) (λ w. ⊎_elim (λ (x : 57 < b). omega arith) (λ x. omega arith) w) isbad)
-    (λ v. ⊎_elim (λ (w : b < 48). omega arith) (λ w. ⊎_elim (λ (x : 57 < b). omega arith) (λ x. omega arith) w) isbad)
-    u)
-    next)
+    grind arith)
     (λ a.
-    let p : 0 < n = ⊎_elim (λ (p : 0 < n). p) (λ (q : k ≡ 16). absurd (omega arith)) a.0 in
-    ⊎_elim
-    (λ (kz : k < 1). let z : k ≡ 0 = omega arith in let lt : n < 10 ^ 0 = subst (λ (x : ℕ). n < 10 ^ x) z a.1 in omega arith)
-    (λ (k1 : 1 ≤ k).
-    let dig = after_digits k n m p k1 h a.1 hm (e ∙ a.2) in
-    ⊎_elim (λ (w : b < 48). omega arith) (λ w. ⊎_elim (λ (x : 57 < b). omega arith) (λ x. omega arith) w) isbad)
-    (cases_lt k 1))
+    let p : 0 < n = grind arith in
+    let dig = after_digits k n m p (some_column k n p a.1) h a.1 hm (e ∙ a.2) in
+    grind arith)
     lead
 
 -- fronts that are the same one byte further are the same, and so is that byte
@@ -131,9 +124,8 @@ rules pre bs b n k lp h lead noblank isbad = record {
       ⊎_elim
       (λ a. (0, omega arith, spaces_complete k a.1 ∙ sym a.2 ∙ sym tk))
       (λ a.
-      let p : 0 < n = ⊎_elim (λ (p : 0 < n). p) (λ (q : k ≡ 16). absurd (omega arith)) a.0 in
-      let k0 : 0 < k = ⊎_elim (λ (kz : k < 1). let z : k ≡ 0 = omega arith in let lt : n < 10 ^ 0 = subst (λ (x : ℕ). n < 10 ^ x) z a.1 in absurd (omega arith)) (λ (k1 : 1 ≤ k). k1) (cases_lt k 1) in
-      begins k n pre (pre ++ (b ∷ bs)) (completes (16 - k) k n (omega arith) k0 p a.1) a.2 tk)
+      let p : 0 < n = grind arith in
+      begins k n pre (pre ++ (b ∷ bs)) (completes (16 - k) k n (omega arith) (some_column k n p a.1) p a.1) a.2 tk)
       lead;
   none = λ m hm e.
       let e1 = front_same k (in_columns 16 m) (pre ++ (b ∷ bs)) e ∙ take_at pre (b ∷ bs) k lp in
@@ -144,7 +136,7 @@ rules pre bs b n k lp h lead noblank isbad = record {
 abbrev Means : ℕ → ℕ → List ℕ → List ℕ → Type 0
 Means n k rest all = MatchResult (scan n k rest) (λ m. Spells all m) (λ j. RulesOut all j)
 
-after : ℕ → List ℕ → Option ℕ → Result ℕ ℕ
+unfoldable pub after : ℕ → List ℕ → Option ℕ → Result ℕ ℕ
 after k bs o = elim o [ None ↦ Err k | Some m ↦ scan m (k + 1) bs ]
 
 abbrev Case : List ℕ → Result ℕ ℕ → Type 0

@@ -15,7 +15,7 @@ use Rattle.fields.proofs.Exact.{in_range_small, ranging_spells, ranging_written}
 -- where one thing read after another is good, both are
 pub by_then : {A B E : Type 0} {P : Type 0} (r : Result A E) (f : A → Result B E) (y : B) → and_then r f ≡ Ok y → ((x : A) → r ≡ Ok x → f x ≡ Ok y → P) → P
 by_then (Ok x) f y e k = k x refl e
-by_then (Err z) f y e k = absurd (let w : ◌≡◌ {A = ℕ} 0 1 = cc in omega arith)
+by_then (Err z) f y e k = grind arith
 
 pub column_wide : (q : Quantity) (n : ℕ) → in_range (range_of q) n ≡ true → length (in_columns 16 n) ≡ 16
 column_wide q n h = let small = in_range_small q n h in length_columns 16 n (omega arith) small (omega arith)

@@ -13,15 +13,12 @@ use Rattle.fields.specs.Faults.{and_then}
 use Rattle.fields.specs.Layout.{closing, closed, letter_in, opening, letters_of, width_of}
 use Rattle.fields.specs.Numbers.{numbers_from, written_line, Within, ReadAs, WrittenAs, ReadsBack}
 use Rattle.fields.specs.Written.{in_columns}
+use Rattle.fields.proofs.Exact.{tested}
 use Rattle.fields.proofs.Numbers.{by_then, numbers_written, numbers_read, numbers_wide}
 
 if_not : {T E : Type 0} (b : Bool) (r : Result T E) (f : E) (x : T) → cond b (Err f) r ≡ Ok x → r ≡ Ok x
 if_not false r f x e = e
-if_not true r f x e = absurd (let w : ◌≡◌ {A = ℕ} 0 1 = cc in omega arith)
-
-if_so : {T E : Type 0} (b : Bool) (r : Result T E) (f : E) (x : T) → cond b r (Err f) ≡ Ok x → b ≡ true
-if_so true r f x e = refl
-if_so false r f x e = absurd (let w : ◌≡◌ {A = ℕ} 0 1 = cc in omega arith)
+if_not true r f x e = grind arith
 
 either : {X : Type 0} (b : Bool) (x y : X) (o : Option X) {P : Type 0} → cond b (Some x) o ≡ Some y → (b ≡ true → x ≡ y → P) → (o ≡ Some y → P) → P
 either true x y o e this that = this refl (cc)
@@ -29,7 +26,7 @@ either false x y o e this that = that e
 
 -- a letter that is found has the byte that it was looked for by
 found_byte : {X : Type 0} (number : X → ℕ) (xs : List X) (n : ℕ) (y : X) → numbered number xs n ≡ Some y → n ≡ number y
-found_byte number [] n y e = absurd (let w : ◌≡◌ {A = ℕ} 0 1 = cc in omega arith)
+found_byte number [] n y e = grind arith
 found_byte number (x ∷ xs) n y e =
     either (eqb n (number x)) x y (numbered number xs n) e
     (λ t same. eqb-true n (number x) t ∙ ap number same)
@@ -38,15 +35,15 @@ found_byte number (x ∷ xs) n y e =
 -- what a closed line has
 closes : (line : List ℕ) (n : ℕ) (x : Unit {0}) → closing line n ≡ Ok x → (1 + 16 * n < length line) × (get_or line (1 + 16 * n) 0 ≡ 10)
 closes line n x e =
-    let t = if_so (ltb (1 + 16 * n) (length line) && eqb (get_or line (1 + 16 * n) 0) 10) (Ok tt) (record { cause = refusal.Length; column = 1 }) x e in
-    let both = and_parts (ltb (1 + 16 * n) (length line)) (eqb (get_or line (1 + 16 * n) 0) 10) t in
+    let t = tested (ltb (1 + 16 * n) (length line) && eqb (get_or line (1 + 16 * n) 0) 10) tt x (record { cause = refusal.Length; column = 1 }) e in
+    let both = and_parts (ltb (1 + 16 * n) (length line)) (eqb (get_or line (1 + 16 * n) 0) 10) t.1 in
     (ltb-true (1 + 16 * n) (length line) both.0, eqb-true (get_or line (1 + 16 * n) 0) 10 both.1)
 
 abbrev Opened : Letter → List ℕ → Type 0
 Opened l line = (1 + 16 * length (letter_rules l).fields < length line) × (get_or line (1 + 16 * length (letter_rules l).fields) 0 ≡ 10)
 
 closed_is : (line : List ℕ) (l : Letter) (o : Option Letter) → closed line o ≡ Ok l → (o ≡ Some l) × Opened l line
-closed_is line l None e = absurd (let w : ◌≡◌ {A = ℕ} 0 1 = cc in omega arith)
+closed_is line l None e = grind arith
 closed_is line l (Some m) e =
     by_then (closing line (length (letter_rules m).fields)) (λ _. Ok m) l e (λ x ex em.
     let same : m ≡ l = cc in

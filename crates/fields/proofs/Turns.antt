@@ -1,13 +1,10 @@
 -- The scan's turns, at an index of the field.
-use Rattle.std.proofs.Common.{◌≡◌, ℕ, ◌+◌, ◌^◌, ◌<◌, ◌≤◌, List, length, get_or, drop, Some, None, Ok, Err, Option, Result, sym, ap, ◌∙◌, subst, ⊎_elim, arith}
+use Rattle.std.proofs.Common.{◌≡◌, ℕ, ◌+◌, ◌^◌, ◌<◌, ◌≤◌, List, length, get_or, drop, Some, None, Ok, Err, Option, sym, ap, ◌∙◌, subst, ⊎_elim, arith}
 use Rattle.std.proofs.lemmas.List.{drop_more, drop_all}
 use Rattle.std.proofs.lemmas.Result.{MatchResult-at_ok, MatchResult-at_err}
 use Rattle.fields.specs.Scan.{scan, step}
 use Rattle.fields.specs.Written.{Spells, RulesOut}
-use Rattle.fields.proofs.Meaning.{does, Does, ten_more, scan_means, pow_pos_ten}
-
-after : ℕ → List ℕ → Option ℕ → Result ℕ ℕ
-after k bs o = elim o [ None ↦ Err k | Some m ↦ scan m (k + 1) bs ]
+use Rattle.fields.proofs.Meaning.{after, does, Does, ten_more, scan_means, pow_pos_ten}
 
 turn : (bs : List ℕ) (n i : ℕ) (o : Option ℕ) → i < length bs → o ≡ step n i (get_or bs i 0) → scan n i (drop i bs) ≡ after i (drop (i + 1) bs) o
 unfolding scan after

@@ -1,5 +1,6 @@
 -- How a line lies in the input: a letter, fields of sixteen columns, a line feed.
-use Rattle.std.specs.Prelude.{◌≡◌, ℕ, ◌+◌, ◌*◌, cond, ◌&&◌, List, [], ◌∷◌, length, take, drop, Some, None, Ok, Err, Option, Result, ◌==◌, nat_lt, slice_index}
+use Rattle.std.specs.Prelude.{◌≡◌, ℕ, zero, suc, ◌+◌, ◌*◌, cond, ◌&&◌, List, [], ◌∷◌, length, take, drop, Some, None, Ok, Err, Option, Result, ◌==◌, nat_lt, slice_index}
+use Rattle.std.specs.Array.{IsElementAt}
 use Rattle.rules.specs.declared.refusal.Refusal.TheVariants as refusal
 use Rattle.rules.specs.declared.letter.Letter.{Letter}
 use Rattle.rules.specs.declared.letter.Letter.TheVariants as letter
@@ -19,6 +20,11 @@ part_of line j = take 16 (drop (1 + 16 * j) line)
 pub record FieldAt (line : List ℕ) (j : ℕ) (f : Field) : Type 0 where
   pub bytes : f.bytes.now ≡ part_of line j
   pub column : f.column ≡ 2 + 16 * j
+
+-- Each of n values is made of the line's field at its place, from place j on.
+abbrev pub MadeFrom : {T : Type 0} → (Field → T → Type 0) → List ℕ → List T → ℕ → ℕ → Type 0
+MadeFrom R line xs j zero = Unit {0}
+MadeFrom {T} R line xs j (suc n) = (f : Field) × (x : T) × FieldAt line j f × R f x × IsElementAt xs j x × MadeFrom R line xs (j + 1) n
 
 -- A line feed has to stand straight after n fields.
 abbrev pub closing : List ℕ → ℕ → Result (Unit {0}) FieldFault

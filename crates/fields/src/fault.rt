@@ -1,5 +1,4 @@
 ghost use Rattle.std.specs.Prelude.{◌≡◌};
-ghost use Rattle.fields.specs.Faults.{beside_of};
 
 use rules::letter::Part;
 use rules::refusal::Refusal;
@@ -46,29 +45,5 @@ impl From<(LineFault, Part)> for DayFault {
             line: p.0,
             part: p.1,
         }
-    }
-}
-
-// Puts a line's letter and number beside a field's fault, for `?` to make a line's fault of them.
-pub fn beside<T>(
-    r: Result<T, FieldFault>,
-    letter: u8,
-    line: u64,
-) -> Result<T, (FieldFault, u8, u64)>
-    ensures { result ≡ beside_of r (λ f. (f, letter, line)) }
-{
-    match r {
-        Ok(x) => Ok(x),
-        Err(f) => Err((f, letter, line)),
-    }
-}
-
-// Puts a part beside a line's fault, for `?` to make a day's fault of them.
-pub fn in_part<T>(r: Result<T, LineFault>, part: Part) -> Result<T, (LineFault, Part)>
-    ensures { result ≡ beside_of r (λ f. (f, part)) }
-{
-    match r {
-        Ok(x) => Ok(x),
-        Err(f) => Err((f, part)),
     }
 }

@@ -23,14 +23,11 @@ impl Field<'_> {
         ensures is { result ≡ reading self.now.bytes.now self.now.column }
         ensures means { MatchResult result (λ n. Spells self.now.bytes.now n) (λ f. (f.cause ≡ Digits) × (self.now.column ≤ f.column) × RulesOut self.now.bytes.now (f.column - self.now.column)) }
     {
-        let sixteen = self.bytes;
-        match digits(sixteen) {
-            Ok(n) => Ok(n),
-            Err(place) => Err(FieldFault {
-                cause: Refusal::Digits,
-                column: self.column as u64 + place as u64,
-            }),
-        }
+        let first = u64::from(self.column);
+        digits(self.bytes).map_err(|place| FieldFault {
+            cause: Refusal::Digits,
+            column: first + place as u64,
+        })
     }
 
     // The field's number, which has to lie in the range of a quantity.
@@ -42,7 +39,7 @@ impl Field<'_> {
         if !quantity.has(n) {
             return Err(FieldFault {
                 cause: Refusal::Range,
-                column: self.column as u64,
+                column: u64::from(self.column),
             });
         }
         Ok(n)
@@ -50,17 +47,13 @@ impl Field<'_> {
 }
 
 // The number whose written form the sixteen bytes are, or the place of the first that rules every written form out.
-fn digits(bytes: &[u8]) -> Result<u64, usize>
-    requires { length bytes.now ≡ 16 }
+fn digits(bytes: &[u8; 16]) -> Result<u64, usize>
     ensures is { result ≡ scan 0 0 bytes.now }
     ensures means { MatchResult result (λ n. Spells bytes.now n) (λ k. RulesOut bytes.now k) }
 {
     let mut n: u64 = 0;
-    for (i, b) in bytes.iter().enumerate() {
-        let Some(m) = carry(n, i, *b) else {
-            return Err(i);
-        };
-        n = m;
+    for (i, &b) in bytes.iter().enumerate() {
+        n = carry(n, i, b).ok_or(i)?;
     }
     Ok(n)
 }
@@ -74,7 +67,7 @@ fn carry(n: u64, i: usize, b: u8) -> Option<u64>
     match b {
         b' ' if n == 0 && i < 15 => Some(0),
         b'0' if n == 0 && i < 15 => None,
-        b'0'..=b'9' => Some(n * 10 + (b - b'0') as u64),
+        b'0'..=b'9' => Some(n * 10 + u64::from(b - b'0')),
         _ => None,
     }
 }

@@ -1,5 +1,6 @@
 ghost use Rattle.std.specs.Prelude.{◌≡◌, ◌+◌, ◌*◌, ◌<◌, ◌≤◌, length, Ok, Err, MatchResult, slice_index};
-ghost use Rattle.fields.specs.Layout.{FieldAt, closing, opening, day_letters, event_letters, width_of};
+ghost use Rattle.fields.specs.Layout.{FieldAt, MadeFrom, closing, opening, day_letters, event_letters, width_of};
+ghost use Rattle.fields.specs.declared.field.Field.{Field};
 ghost use Rattle.fields.specs.Lines.{day_letter_of, DayFieldsOf, event_letter_of, EventFieldsOf};
 ghost use Rattle.fields.specs.Numbers.{ReadsBack};
 
@@ -7,6 +8,7 @@ use super::fault::FieldFault;
 use super::field::Field;
 use rules::letter::Letter;
 use rules::refusal::Refusal;
+use std::array::from_fn;
 
 // A line of the day part: its letter is the case, its fields are parts of the input.
 #[derive(Clone, Copy)]
@@ -73,57 +75,57 @@ impl<'a> DayLine<'a> {
     pub fn cut(rest: &'a [u8]) -> Result<DayLine<'a>, FieldFault>
         ensures { MatchResult result (λ l. (opening day_letters rest.now ≡ Ok (day_letter_of l)) × DayFieldsOf rest.now l) (λ f. opening day_letters rest.now ≡ Err f) }
     {
-        if rest.is_empty() {
+        let Some(&letter) = rest.first() else {
             return Err(LENGTH);
-        }
-        match rest[0] as char {
+        };
+        match letter as char {
             'D' => {
-                ended(rest, 3)?;
+                let [market, date, quota] = parts::<_, 3>(rest)?;
                 Ok(DayLine::Day {
-                    market: part(rest, 0),
-                    date: part(rest, 1),
-                    quota: part(rest, 2),
+                    market,
+                    date,
+                    quota,
                 })
             }
             'S' => {
-                ended(rest, 4)?;
+                let [code, mode, close, band] = parts::<_, 4>(rest)?;
                 Ok(DayLine::Security {
-                    code: part(rest, 0),
-                    mode: part(rest, 1),
-                    close: part(rest, 2),
-                    band: part(rest, 3),
+                    code,
+                    mode,
+                    close,
+                    band,
                 })
             }
             'P' => {
-                ended(rest, 3)?;
+                let [participant, code, shares] = parts::<_, 3>(rest)?;
                 Ok(DayLine::Holding {
-                    participant: part(rest, 0),
-                    code: part(rest, 1),
-                    shares: part(rest, 2),
+                    participant,
+                    code,
+                    shares,
                 })
             }
             'A' => {
-                ended(rest, 3)?;
+                let [account, code, shares] = parts::<_, 3>(rest)?;
                 Ok(DayLine::AccountHolding {
-                    account: part(rest, 0),
-                    code: part(rest, 1),
-                    shares: part(rest, 2),
+                    account,
+                    code,
+                    shares,
                 })
             }
             'G' => {
-                ended(rest, 2)?;
+                let [account, participant] = parts::<_, 2>(rest)?;
                 Ok(DayLine::Designation {
-                    account: part(rest, 0),
-                    participant: part(rest, 1),
+                    account,
+                    participant,
                 })
             }
             'E' => {
-                ended(rest, 4)?;
+                let [securities, holdings, account_holdings, designations] = parts::<_, 4>(rest)?;
                 Ok(DayLine::End {
-                    securities: part(rest, 0),
-                    holdings: part(rest, 1),
-                    account_holdings: part(rest, 2),
-                    designations: part(rest, 3),
+                    securities,
+                    holdings,
+                    account_holdings,
+                    designations,
                 })
             }
             _ => Err(LETTER),
@@ -136,27 +138,25 @@ impl<'a> EventLine<'a> {
     pub fn cut(rest: &'a [u8]) -> Result<EventLine<'a>, FieldFault>
         ensures { MatchResult result (λ l. (opening event_letters rest.now ≡ Ok (event_letter_of l)) × EventFieldsOf rest.now l) (λ f. opening event_letters rest.now ≡ Err f) }
     {
-        if rest.is_empty() {
+        let Some(&letter) = rest.first() else {
             return Err(LENGTH);
-        }
-        match rest[0] as char {
+        };
+        match letter as char {
             'H' => {
                 ended(rest, 0)?;
                 Ok(EventLine::Step)
             }
             'F' => {
-                ended(rest, 3)?;
+                let [code, foreign, total] = parts::<_, 3>(rest)?;
                 Ok(EventLine::Notice {
-                    code: part(rest, 0),
-                    foreign: part(rest, 1),
-                    total: part(rest, 2),
+                    code,
+                    foreign,
+                    total,
                 })
             }
             'U' => {
-                ended(rest, 1)?;
-                Ok(EventLine::Link {
-                    state: part(rest, 0),
-                })
+                let [state] = parts::<_, 1>(rest)?;
+                Ok(EventLine::Link { state })
             }
             _ => Err(LETTER),
         }
@@ -175,12 +175,29 @@ pub fn line_width(letter: Letter) -> usize
 pub fn first_byte(line: &[u8]) -> u8
     ensures { result ≡ slice_index line.now 0 }
 {
-    if line.len() == 0 { 0 } else { line[0] }
+    line.first().copied().unwrap_or(0)
+}
+
+// The N fields of a line, if a line feed stands straight after the last. Each is a T that is made of it: no array of
+// references has a length that is a parameter.
+fn parts<'a, T: From<Field<'a>>, const N: usize>(line: &'a [u8]) -> Result<[T; N], FieldFault>
+    requires { N < 6 }
+    ensures { MatchResult result (λ xs. (closing line.now N ≡ Ok tt) × MadeFrom T.from_gives line.now xs 0 N) (λ f. closing line.now N ≡ Err f) }
+{
+    ended(line, N)?;
+    Ok(from_fn(
+        |j: usize| -> T
+            requires few { j < 5 }
+            requires long { 17 + 16 * j ≤ length line.now }
+            ensures { (f : Field) × FieldAt line.entry.now j f × T.from_gives f result }
+        { T::from(part(line, j)) },
+    ))
 }
 
 // The field j of a line, counted from 0.
 fn part(line: &[u8], j: usize) -> Field<'_>
-    requires { (j < 5) × (17 + 16 * j ≤ length line.now) }
+    requires few { j < 5 }
+    requires long { 17 + 16 * j ≤ length line.now }
     ensures { FieldAt line.now j result }
 {
     let from = 1 + 16 * j;
@@ -197,7 +214,7 @@ fn ended(line: &[u8], n: usize) -> Result<(), FieldFault>
     ensures { result ≡ closing line.now n }
 {
     let at = 1 + 16 * n;
-    if at < line.len() && line[at] == b'\n' {
+    if line.get(at) == Some(&b'\n') {
         Ok(())
     } else {
         Err(LENGTH)

@@ -20,7 +20,7 @@ impl LoadingDay {
     ) -> Result<TradingDay, (LoadingDay, Refusal)>
         ensures { MatchResult result (λ day. OpenedBy market date quota day.figures) (λ back. Some back.1 ≡ first_broken (opening_rules market date quota)) }
     {
-        let Some(at) = Market::numbered(market) else {
+        let Ok(at) = Market::try_from(market) else {
             return Err((self, Refusal::Range));
         };
         if !Quantity::Date.has(date) {

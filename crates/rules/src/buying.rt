@@ -1,7 +1,10 @@
 ghost use Rattle.std.specs.Prelude.{◌≡◌};
+ghost use Rattle.std.specs.Option.{ok_or};
 ghost use Rattle.rules.specs.Buyings.{buying_numbered, after_notice};
+ghost use Rattle.rules.specs.declared.refusal.Refusal.TheVariants as refusal;
 
 use super::notice::NoticeBand;
+use super::refusal::Refusal;
 
 // Whether a security may be bought.
 #[derive(Clone, Copy, PartialEq, Eq, Debug)]
@@ -11,31 +14,32 @@ pub enum Buying {
     Suspended,
 }
 
-impl Buying {
-    // The buying state of a number, if it is one's.
-    pub fn numbered(n: u64) -> Option<Buying>
-        ensures { result ≡ buying_numbered n }
-    {
+// The buying state of a number, if it is one's.
+impl TryFrom<u64> for Buying {
+    type Error = Refusal;
+
+    ghost try_from_gives = { λ n r. r ≡ ok_or (buying_numbered n) refusal.Range };
+
+    fn try_from(n: u64) -> Result<Buying, Refusal> {
         match n {
-            1 => Some(Buying::Open),
-            2 => Some(Buying::SellOnly),
-            3 => Some(Buying::Suspended),
-            _ => None,
+            1 => Ok(Buying::Open),
+            2 => Ok(Buying::SellOnly),
+            3 => Ok(Buying::Suspended),
+            _ => Err(Refusal::Range),
         }
     }
+}
 
+impl Buying {
     // The buying state that a notice of the band leaves.
     pub fn noticed(self, band: NoticeBand) -> Buying
         ensures { result ≡ after_notice self band }
     {
         match (self, band) {
             (Buying::SellOnly, _) => Buying::SellOnly,
-            (Buying::Open, NoticeBand::Suspending) => Buying::Suspended,
-            (Buying::Open, NoticeBand::Between) => Buying::Open,
-            (Buying::Open, NoticeBand::Reopening) => Buying::Open,
-            (Buying::Suspended, NoticeBand::Suspending) => Buying::Suspended,
-            (Buying::Suspended, NoticeBand::Between) => Buying::Suspended,
-            (Buying::Suspended, NoticeBand::Reopening) => Buying::Open,
+            (_, NoticeBand::Suspending) => Buying::Suspended,
+            (_, NoticeBand::Between) => self,
+            (_, NoticeBand::Reopening) => Buying::Open,
         }
     }
 }

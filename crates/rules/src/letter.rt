@@ -4,33 +4,30 @@ ghost use Rattle.rules.specs.Letters.{part_number, letter_rules};
 // The two parts of a day's input.
 #[derive(Clone, Copy, PartialEq, Eq, Debug)]
 pub enum Part {
-    Day,
-    Event,
+    Day = 1,
+    Event = 2,
 }
 
 impl Part {
     pub fn number(self) -> u64
         ensures { result ≡ part_number self }
     {
-        match self {
-            Part::Day => 1,
-            Part::Event => 2,
-        }
+        self as u64
     }
 }
 
 // The kinds of line, each of which has a letter.
-#[derive(Clone, Copy)]
+#[derive(Clone, Copy, PartialEq, Eq, Debug)]
 pub enum Letter {
-    Day,
-    Security,
-    Holding,
-    AccountHolding,
-    Designation,
-    End,
-    Step,
-    Notice,
-    Link,
+    Day = b'D' as isize,
+    Security = b'S' as isize,
+    Holding = b'P' as isize,
+    AccountHolding = b'A' as isize,
+    Designation = b'G' as isize,
+    End = b'E' as isize,
+    Step = b'H' as isize,
+    Notice = b'F' as isize,
+    Link = b'U' as isize,
 }
 
 impl Letter {
@@ -38,17 +35,7 @@ impl Letter {
     pub fn byte(self) -> u8
         ensures { result ≡ (letter_rules self).byte }
     {
-        match self {
-            Letter::Day => b'D',
-            Letter::Security => b'S',
-            Letter::Holding => b'P',
-            Letter::AccountHolding => b'A',
-            Letter::Designation => b'G',
-            Letter::End => b'E',
-            Letter::Step => b'H',
-            Letter::Notice => b'F',
-            Letter::Link => b'U',
-        }
+        self as u8
     }
 
     // How many fields the line has.

@@ -4,7 +4,7 @@ ghost use Rattle.rules.specs.Notices.{notice_band, unfit_notice};
 use super::range::Quantity;
 
 // Where a notice's foreign shares stand to the marks of their holding limit.
-#[derive(Clone, Copy)]
+#[derive(Clone, Copy, PartialEq, Eq, Debug)]
 pub enum NoticeBand {
     Suspending,
     Between,

@@ -16,10 +16,7 @@ impl Phase {
     pub fn shuts(self) -> bool
         ensures { result ≡ (phase_rules self).shuts }
     {
-        match self {
-            Phase::Continuous | Phase::ClosingCall => true,
-            Phase::OpeningCall | Phase::OpeningCallNoCancel | Phase::AfterHours => false,
-        }
+        matches!(self, Phase::Continuous | Phase::ClosingCall)
     }
 
     // The phase that a step leads to: none after hours.

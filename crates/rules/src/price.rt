@@ -1,32 +1,37 @@
 ghost use Rattle.std.specs.Prelude.{◌≡◌};
+ghost use Rattle.std.specs.Option.{ok_or};
 ghost use Rattle.rules.specs.Prices.{band_percent, band_of_percent, lowest_price, highest_price};
+ghost use Rattle.rules.specs.declared.refusal.Refusal.TheVariants as refusal;
+
+use super::refusal::Refusal;
 
 // How far a day's prices may leave the previous close, in percent.
 #[derive(Clone, Copy, PartialEq, Eq, Debug)]
 pub enum PriceBand {
-    Five,
-    Ten,
+    Five = 5,
+    Ten = 10,
+}
+
+// The band of a percentage, if it is one's.
+impl TryFrom<u64> for PriceBand {
+    type Error = Refusal;
+
+    ghost try_from_gives = { λ n r. r ≡ ok_or (band_of_percent n) refusal.Range };
+
+    fn try_from(n: u64) -> Result<PriceBand, Refusal> {
+        match n {
+            5 => Ok(PriceBand::Five),
+            10 => Ok(PriceBand::Ten),
+            _ => Err(Refusal::Range),
+        }
+    }
 }
 
 impl PriceBand {
     fn percent(self) -> u64
         ensures { result ≡ band_percent self }
     {
-        match self {
-            PriceBand::Five => 5,
-            PriceBand::Ten => 10,
-        }
-    }
-
-    // The band of a percentage, if it is one's.
-    pub fn of_percent(n: u64) -> Option<PriceBand>
-        ensures { result ≡ band_of_percent n }
-    {
-        match n {
-            5 => Some(PriceBand::Five),
-            10 => Some(PriceBand::Ten),
-            _ => None,
-        }
+        self as u64
     }
 
     // The lowest price of the day, in fen.

@@ -2,7 +2,7 @@ ghost use Rattle.std.specs.Prelude.{◌≡◌};
 ghost use Rattle.rules.specs.Ranges.{from_to, in_range, range_of};
 
 // The numbers from the least to the most, both included, that are multiples of the unit.
-#[derive(Clone, Copy)]
+#[derive(Clone, Copy, PartialEq, Eq, Debug)]
 pub struct Range {
     pub least: u64,
     pub most: u64,
@@ -13,10 +13,7 @@ impl Range {
     pub fn has(self, n: u64) -> bool
         ensures { result ≡ in_range self n }
     {
-        if n < self.least || n > self.most || self.unit == 0 {
-            return false;
-        }
-        n % self.unit == 0
+        (self.least..=self.most).contains(&n) && self.unit != 0 && n % self.unit == 0
     }
 }
 
@@ -32,7 +29,7 @@ fn from_to(least: u64, most: u64) -> Range
 }
 
 // The kinds of number that the rules bound.
-#[derive(Clone, Copy)]
+#[derive(Clone, Copy, PartialEq, Eq, Debug)]
 pub enum Quantity {
     Market,
     Date,

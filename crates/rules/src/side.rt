@@ -3,7 +3,7 @@ ghost use Rattle.rules.specs.Sides.{side_rules};
 
 use super::range::Range;
 
-#[derive(Clone, Copy)]
+#[derive(Clone, Copy, PartialEq, Eq, Debug)]
 pub enum Side {
     Buy,
     Sell,
