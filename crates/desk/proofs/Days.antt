@@ -1,5 +1,6 @@
 -- The answer to a day that is loaded, and to one that is refused.
-use Rattle.std.proofs.Common.{◌≡◌, ℕ, List, drop, Ok, Err, Result, sym, refl, ap, ◌∙◌, subst, arith}
+use Rattle.std.proofs.Common.{◌≡◌, ℕ, List, [], ◌++◌, drop, Ok, Err, Result, String, string_bytes, sym, refl, ap, ◌∙◌, subst, arith}
+use Rattle.std.specs.declared.alloc.Global.{Global}
 use Rattle.rules.specs.declared.letter.Part.TheVariants as part
 use Rattle.tables.specs.declared.rows.Security.{Security}
 use Rattle.fields.specs.declared.fault.DayFault.{DayFault}
@@ -17,7 +18,7 @@ use Rattle.desk.specs.declared.event.Link.TheVariants.{Up}
 use Rattle.desk.specs.Answered.{Answered}
 use Rattle.desk.specs.Events.{session}
 use Rattle.desk.specs.Output.{DayAnswer, answered, refused}
-use Rattle.desk.specs.Printed.{shown_fault}
+use Rattle.desk.specs.Printed.{Appends, shown_fault}
 
 same_plan : (r : Result Plan LineFault) (a b : Plan) → r ≡ Ok a → r ≡ Ok b → a ≡ b
 same_plan r a b p q = cc
@@ -52,3 +53,7 @@ pub day_refused : (input : List ℕ) (before after : Tables) (day : LoadingDay) 
 day_refused input before after day fault load =
     let f = day_fault (day_part input (room_of before)) fault load.answers in
     subst (λ (x : DayFault). DayAnswer input (room_of before) (shown_fault x)) f.2 (refused f.0 f.1)
+
+-- what is written where nothing was
+pub from_nothing : (P : List ℕ → Type 0) (before after : String Global) → string_bytes before ≡ [] → Appends before after P → P (string_bytes after)
+from_nothing P before after e made = subst P (sym (made.1 ∙ ap (λ (t : List ℕ). t ++ made.0) e)) made.2
