@@ -9,11 +9,8 @@ fn put_word(out: &mut Vec<u8>, word: &[u8]) -> Result<(), AllocError>
     ensures { OnOk result (out.new.items ≡ out.old.items ++ columned 16 word.now) }
 {
     let blanks = 16usize.saturating_sub(word.len());
-    for column in 0..blanks {
-        out.push(b' ')?;
-    }
-    out.extend_from_slice(word)?;
-    Ok(())
+    out.resize(out.len() + blanks, b' ')?;
+    out.extend_from_slice(word)
 }
 
 // Writes a line in its columns: a letter, each word behind it in sixteen columns, and a line feed. The word `#` stands
@@ -22,9 +19,8 @@ pub(crate) fn put_words(out: &mut Vec<u8>, line: &str, number: &str) -> Result<(
     ensures { OnOk result (Grown out.old.items out.new.items) }
 {
     let mut words = line.split_whitespace();
-    if let Some(letter) = words.next() {
-        out.extend_from_slice(letter.as_bytes())?;
-    }
+    let letter = words.next().unwrap_or("");
+    out.extend_from_slice(letter.as_bytes())?;
     for word in words {
         let field = if word == "#" { number } else { word };
         put_word(out, field.as_bytes())?;

@@ -1,7 +1,7 @@
 -- The answer to a day that is loaded, and to one that is refused.
-use Rattle.std.proofs.Common.{◌≡◌, ℕ, List, drop, Ok, Err, Result, sym, refl, ap, ◌∙◌, subst, arith}
+use Rattle.std.proofs.Common.{◌≡◌, ℕ, List, [], ◌++◌, drop, Ok, Err, Result, String, string_bytes, sym, refl, ap, ◌∙◌, subst, rules}
+use Rattle.std.specs.declared.alloc.Global.{Global}
 use Rattle.rules.specs.declared.letter.Part.TheVariants as part
-use Rattle.tables.specs.declared.rows.Security.{Security}
 use Rattle.fields.specs.declared.fault.DayFault.{DayFault}
 use Rattle.fields.specs.declared.fault.LineFault.{LineFault}
 use Rattle.fields.specs.Faults.{day_at}
@@ -17,7 +17,7 @@ use Rattle.desk.specs.declared.event.Link.TheVariants.{Up}
 use Rattle.desk.specs.Answered.{Answered}
 use Rattle.desk.specs.Events.{session}
 use Rattle.desk.specs.Output.{DayAnswer, answered, refused}
-use Rattle.desk.specs.Printed.{shown_fault}
+use Rattle.desk.specs.Printed.{Appends, shown_fault}
 
 same_plan : (r : Result Plan LineFault) (a b : Plan) → r ≡ Ok a → r ≡ Ok b → a ≡ b
 same_plan r a b p q = cc
@@ -35,20 +35,18 @@ day_answered input before after l text load events =
     let begins = load.answers.2 in
     let d = load.described in
     let lines = listed input (room_of before) after made d.0 load.answers.1 d.1 d.2 in
-    let at-lines : Answered (session l.day.figures (described input made).securities Up) l.line (drop l.events input) text =
-    subst (λ (s : List Security). Answered (session l.day.figures s Up) l.line (drop l.events input) text) lines events in
-    let at_line : Answered (session l.day.figures (described input made).securities Up) made.line (drop l.events input) text =
-    subst (λ (n : ℕ). Answered (session l.day.figures (described input made).securities Up) n (drop l.events input) text) begins.first_line at-lines in
-    let at_place : Answered (session l.day.figures (described input made).securities Up) made.line (drop made.events input) text =
-    subst (λ (n : ℕ). Answered (session l.day.figures (described input made).securities Up) made.line (drop n input) text) begins.events_begin at_line in
-    answered made l.day.figures text load.answers.1 begins.opened at_place
+    answered made l.day.figures text load.answers.1 begins.opened (rw (lines, begins.first_line, begins.events_begin) at events)
 
 day_fault : (r : Result Plan LineFault) (fault : DayFault) → day_at part.Day r ≡ Err fault → (f : LineFault) × (r ≡ Err f) × (record { line = f; part = part.Day } ≡ fault)
-day_fault (Ok p) fault e = absurd (let z : ◌≡◌ {A = ℕ} 0 1 = cc in omega arith)
-day_fault (Err f) fault e = (f, refl, let w : record { line = f; part = part.Day } ≡ fault = cc in w)
+day_fault (Ok p) fault e = search rules
+day_fault (Err f) fault e = (f, refl, cc)
 
 -- a day that is refused is answered by its fault
 pub day_refused : (input : List ℕ) (before after : Tables) (day : LoadingDay) (fault : DayFault) → Load input before (Err (day, fault)) after → DayAnswer input (room_of before) (shown_fault fault)
 day_refused input before after day fault load =
     let f = day_fault (day_part input (room_of before)) fault load.answers in
     subst (λ (x : DayFault). DayAnswer input (room_of before) (shown_fault x)) f.2 (refused f.0 f.1)
+
+-- what is written where nothing was
+pub from_nothing : (P : List ℕ → Type 0) (before after : String Global) → string_bytes before ≡ [] → Appends before after P → P (string_bytes after)
+from_nothing P before after e made = subst P (sym (made.1 ∙ ap (λ (t : List ℕ). t ++ made.0) e)) made.2

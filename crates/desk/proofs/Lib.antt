@@ -1,2 +1,3 @@
 pub mod Turns
 pub mod Days
+pub mod Columns

@@ -1,5 +1,6 @@
 -- One turn of the event loop.
-use Rattle.std.proofs.Common.{◌≡◌, ℕ, ◌+◌, ◌<◌, ◌≤◌, List, [], ◌++◌, length, get_or, drop, IfOk, Ok, Err, Result, sym, refl, ap, ◌∙◌, subst, append_assoc, append-nil, arith}
+use Rattle.std.proofs.Common.{◌≡◌, ℕ, ◌+◌, ◌<◌, ◌≤◌, List, [], ◌++◌, length, get_or, drop, Ok, Err, Result, append_assoc, append-nil, arith, rules, String, string_bytes}
+use Rattle.std.specs.declared.alloc.Global.{Global}
 use Rattle.std.proofs.lemmas.List.{drop-drop, drop_all, length-drop}
 use Rattle.rules.specs.declared.letter.Part.TheVariants as part
 use Rattle.fields.specs.declared.fault.DayFault.{DayFault}
@@ -9,45 +10,45 @@ use Rattle.fields.specs.Layout.{width_of}
 use Rattle.desk.specs.declared.event.Event.{Event}
 use Rattle.desk.specs.Answered.{Answered, event_answer, faulty, next, over}
 use Rattle.desk.specs.Events.{Session, after_event, event_letter, event_of}
-use Rattle.desk.specs.Printed.{shown_fault}
-
-clash : {A : Type 0} → ◌≡◌ {A = ℕ} 0 1 → A
-clash e = absurd (omega arith)
+use Rattle.desk.specs.Printed.{Appends, shown_fault}
 
 -- the event, or the fault, behind the letter, the line and the part
 event_ok : (r : Result Event FieldFault) (b nr : ℕ) (e : Event) → Ok e ≡ day_at part.Event (line_at b nr r) → r ≡ Ok e
-event_ok (Ok x) b nr e q = ap Ok (let w : x ≡ e = cc in w)
-event_ok (Err f) b nr e q = clash (cc)
+event_ok (Ok x) b nr e q = cc
+event_ok (Err f) b nr e q = cc
 
 event_err : (r : Result Event FieldFault) (b nr : ℕ) (fault : DayFault) → Err fault ≡ day_at part.Event (line_at b nr r) → (f : FieldFault) × (r ≡ Err f) × (fault ≡ record { line = record { field = f; letter = b; line = nr }; part = part.Event })
-event_err (Ok x) b nr fault q = clash (cc)
-event_err (Err f) b nr fault q = (f, refl, let w : fault ≡ record { line = record { field = f; letter = b; line = nr }; part = part.Event } = cc in w)
+event_err (Ok x) b nr fault q = search rules
+event_err (Err f) b nr fault q = search rules
 
 -- what is answered so far goes on to what is answered in the end
 abbrev pub Goes : Session → ℕ → List ℕ → List ℕ → Session → ℕ → List ℕ → Type 0
 Goes s₀ nr₀ rest₀ text s nr rest = (more : List ℕ) → Answered s nr rest more → Answered s₀ nr₀ rest₀ (text ++ more)
 
-module _ (s₀ : Session) (nr₀ : ℕ) (rest₀ : List ℕ) (input : List ℕ) (text : List ℕ) (s : Session) (nr from : ℕ) (goes : Goes s₀ nr₀ rest₀ text s nr (drop from input)) (cut : List ℕ) (is : cut ≡ drop from input) where
-  pub one_more : (e : Event) (s' : Session) (w : ℕ) → Ok e ≡ day_at part.Event (line_at (get_or cut 0 0) nr (event_of cut)) → s' ≡ after_event s e → w ≡ width_of (event_letter e) → Goes s₀ nr₀ rest₀ (text ++ event_answer s e) s' (nr + 1) (drop (from + w) input)
-  one_more e s' w q a we more answered =
-      let er : event_of (drop from input) ≡ Ok e = sym (ap event_of is) ∙ event_ok (event_of cut) (get_or cut 0 0) nr e q in
-      let rest : drop (from + w) input ≡ drop (width_of (event_letter e)) (drop from input) = ap (λ (n : ℕ). drop (from + n) input) we ∙ sym (drop-drop (width_of (event_letter e)) from input) in
-      let here : Answered (after_event s e) (nr + 1) (drop (width_of (event_letter e)) (drop from input)) more =
-      subst (λ (t : List ℕ). Answered (after_event s e) (nr + 1) t more) rest (subst (λ x. Answered x (nr + 1) (drop (from + w) input) more) a answered) in
-      subst (Answered s₀ nr₀ rest₀) (sym (append_assoc text (event_answer s e) more)) (goes (event_answer s e ++ more) (next (drop from input) e more er here))
+-- what is written behind a text that was written behind another
+behind : (before out after : String Global) (text more : List ℕ) → string_bytes out ≡ string_bytes before ++ text → string_bytes after ≡ string_bytes out ++ more → string_bytes after ≡ string_bytes before ++ (text ++ more)
+behind before out after text more first then = search (rules, first, then, append_assoc)
 
-  pub at_fault : (fault : DayFault) → from < length input → Err fault ≡ day_at part.Event (line_at (get_or cut 0 0) nr (event_of cut)) → Answered s₀ nr₀ rest₀ (text ++ shown_fault fault)
-  at_fault fault l q =
-      let f = event_err (event_of cut) (get_or cut 0 0) nr fault q in
-      let er : event_of (drop from input) ≡ Err f.0 = sym (ap event_of is) ∙ f.1 in
-      let some : 0 < length (drop from input) = rw (length-drop from input) (omega arith) in
-      let shown : shown_fault (record { line = record { field = f.0; letter = get_or (drop from input) 0 0; line = nr }; part = part.Event }) ≡ shown_fault fault =
-      ap (λ (t : List ℕ). shown_fault (record { line = record { field = f.0; letter = get_or t 0 0; line = nr }; part = part.Event })) (sym is) ∙ sym (ap shown_fault f.2) in
-      subst (λ (t : List ℕ). Answered s₀ nr₀ rest₀ (text ++ t)) shown (goes _ (faulty (drop from input) f.0 some er))
+module _ (s₀ : Session) (nr₀ : ℕ) (rest₀ : List ℕ) (input : List ℕ) (s : Session) (nr from : ℕ) (before out : String Global) (so_far : Appends before out (λ text. Goes s₀ nr₀ rest₀ text s nr (drop from input))) where
+  pub one_more : (e : Event) (s' : Session) (w : ℕ) (after : String Global) → Ok e ≡ day_at part.Event (line_at (get_or (drop from input) 0 0) nr (event_of (drop from input))) → s' ≡ after_event s e → w ≡ width_of (event_letter e)
+      → string_bytes after ≡ string_bytes out ++ event_answer s e → Appends before after (λ text. Goes s₀ nr₀ rest₀ text s' (nr + 1) (drop (from + w) input))
+  one_more e s' w after q a we wrote = (
+    so_far.0 ++ event_answer s e,
+    behind before out after so_far.0 (event_answer s e) so_far.1 wrote,
+    λ more answered.
+        let here : Answered (after_event s e) (nr + 1) (drop (width_of (event_letter e)) (drop from input)) more = rw drop-drop (rw (a, we) at answered) in
+        rw (append_assoc so_far.0 (event_answer s e) more) (so_far.2 _ (next (drop from input) e more (event_ok _ _ nr e q) here)),
+  )
 
-  pub at_end : length input ≤ from → Answered s₀ nr₀ rest₀ text
-  at_end l = subst (Answered s₀ nr₀ rest₀) (append-nil text) (goes [] (subst (λ (t : List ℕ). Answered s nr t []) (sym (drop_all from input l)) over))
+  pub at_fault : (fault : DayFault) (after : String Global) → from < length input → Err fault ≡ day_at part.Event (line_at (get_or (drop from input) 0 0) nr (event_of (drop from input)))
+      → string_bytes after ≡ string_bytes out ++ shown_fault fault → Appends before after (Answered s₀ nr₀ rest₀)
+  at_fault fault after l q wrote =
+      let f = event_err (event_of (drop from input)) (get_or (drop from input) 0 0) nr fault q in
+      let some : 0 < length (drop from input) = rw (length-drop from input) (omega arith) in (
+        so_far.0 ++ shown_fault fault,
+        behind before out after so_far.0 (shown_fault fault) so_far.1 wrote,
+        rw f.2 (so_far.2 _ (faulty (drop from input) f.0 some f.1)),
+      )
 
-pub made_so : {X E P Q : Type 0} (r : Result X E) → (P → Q) → IfOk r (λ _. P) → IfOk r (λ _. Q)
-made_so (Ok x) f p = f p
-made_so (Err e) f p = tt
+  pub at_end : length input ≤ from → Appends before out (Answered s₀ nr₀ rest₀)
+  at_end l = (so_far.0, so_far.1, rw append-nil at (so_far.2 [] (rw (drop_all from input l) over)))

@@ -1,12 +1,16 @@
 -- The lines that are printed, in the input's own layout.
-use Rattle.std.specs.Prelude.{ℕ, List, [], ◌∷◌, ◌++◌, ℤ, Some, None, Option}
+use Rattle.std.specs.Prelude.{◌≡◌, ℕ, List, [], ◌∷◌, ◌++◌, ℤ, Some, None, Option, String, string_bytes}
 use Rattle.std.specs.Fmt.{signed_decimal}
+use Rattle.std.specs.declared.alloc.Global.{Global}
 use Rattle.rules.specs.declared.letter.Letter.{Letter}
 use Rattle.rules.specs.declared.refusal.Refusal.{Refusal}
+use Rattle.rules.specs.declared.refusal.Refusal.TheVariants as refusal
 use Rattle.rules.specs.Letters.{letter_rules, part_number}
 use Rattle.rules.specs.Refusals.{refusal_number}
 use Rattle.fields.specs.declared.fault.DayFault.{DayFault}
 use Rattle.fields.specs.Written.{columned, in_columns}
+use Rattle.desk.specs.declared.printing.Fault.{Fault}
+use Rattle.desk.specs.declared.printing.Fault.TheVariants as fault
 
 -- A refusal's number, 0 where there is none.
 abbrev pub refusal_shown : Option Refusal → ℕ
@@ -30,3 +34,12 @@ fault_line cause column letter line part =
 -- The line of a fault.
 abbrev pub shown_fault : DayFault → List ℕ
 shown_fault f = fault_line (refusal_number f.line.field.cause) f.line.field.column f.line.letter f.line.line (part_number f.part)
+
+-- The line of a fault, and of an input that is too long: the cause is room, and nothing else is known.
+abbrev pub printed_fault : Fault → List ℕ
+printed_fault fault.TooLong = fault_line (refusal_number refusal.Room) 0 0 0 0
+printed_fault (fault.Day f) = shown_fault f
+
+-- What was printed stays, and behind it stands one more text, of which this holds.
+abbrev pub Appends : String Global → String Global → (List ℕ → Type 0) → Type 0
+Appends before after Holds = (text : List ℕ) × (string_bytes after ≡ string_bytes before ++ text) × Holds text

@@ -1,4 +1,4 @@
-ghost use Rattle.std.specs.Prelude.{◌≡◌, ℕ, ◌+◌, ◌≤◌, List, ◌++◌, length, drop, IfOk, vec_len, OnOk};
+ghost use Rattle.std.specs.Prelude.{◌≡◌, ◌+◌, ◌≤◌, length, drop, IfOk, vec_len, OnOk};
 ghost use Rattle.dayfile.specs.DayPart.{counts};
 ghost use Rattle.dayfile.specs.Loads.{room_of, tables_of};
 ghost use Rattle.tables.specs.Lines.{security_lines};
@@ -6,15 +6,15 @@ ghost use Rattle.desk.specs.declared.event.Link.TheVariants.{Up};
 ghost use Rattle.desk.specs.Answered.{Answered};
 ghost use Rattle.desk.specs.Events.{session};
 ghost use Rattle.desk.specs.Output.{DayAnswer, Output, program_room};
+ghost use Rattle.desk.specs.Printed.{Appends};
 
-use super::printing::{put_fault, put_fault_numbers};
+use super::printing::Fault;
 use super::running::answer_events;
 use dayfile::loaded::Loaded;
 use dayfile::loading::load;
 use gate::day::LoadingDay;
 use rules::buying::Buying;
 use rules::price::PriceBand;
-use rules::refusal::Refusal;
 use std::alloc::{AllocError, Global};
 use tables::account_holdings::AccountHoldings;
 use tables::designations::Designations;
@@ -30,36 +30,34 @@ const ROWS: usize = 256;
 
 // Answers a day that is loaded: its events, and then the day is left.
 fn answer_loaded(
-    heap: Global,
     input: &[u8],
     loaded: Loaded,
     list: &mut SecurityList,
-    out: &mut Vec<u8>,
+    out: &mut String,
 ) -> Result<(), AllocError>
     requires { (loaded.events ≤ length input.now) × (loaded.line ≤ loaded.events + 1) }
-    ensures { OnOk result ((text : List ℕ) × (out.new.items ≡ out.old.items ++ text) × Answered (session loaded.day.figures (security_lines list.old) Up) loaded.line (drop loaded.events input.now) text) }
+    ensures { OnOk result (Appends out.old out.new (Answered (session loaded.day.figures (security_lines list.old) Up) loaded.line (drop loaded.events input.now))) }
 {
     let Loaded {
         mut day,
         events,
         line,
     } = loaded;
-    let answered = answer_events(heap, input, events, line, &mut day, list, out);
+    let answered = answer_events(input, events, line, &mut day, list, out);
     day.leave();
     answered
 }
 
 // Answers an input over lent tables.
 fn answer(
-    heap: Global,
     input: &[u8],
     list: &mut SecurityList,
     holdings: &mut Holdings,
     account_holdings: &mut AccountHoldings,
     designations: &mut Designations,
-    out: &mut Vec<u8>,
+    out: &mut String,
 ) -> Result<(), AllocError>
-    ensures { OnOk result ((text : List ℕ) × (out.new.items ≡ out.old.items ++ text) × DayAnswer input.now (room_of (tables_of list.old holdings.old account_holdings.old designations.old)) text) }
+    ensures { OnOk result (Appends out.old out.new (DayAnswer input.now (room_of (tables_of list.old holdings.old account_holdings.old designations.old)))) }
 {
     match load(
         LoadingDay {},
@@ -69,32 +67,30 @@ fn answer(
         account_holdings,
         designations,
     ) {
-        Ok(loaded) => answer_loaded(heap, input, loaded, list, out),
+        Ok(loaded) => answer_loaded(input, loaded, list, out),
         Err(back) => {
             let (LoadingDay {}, fault) = back;
-            put_fault(heap, out, fault)
+            write!(out, "{}", Fault::Day(fault))
         }
     }
 }
 
 // Answers an input over the rows of lent tables.
 fn answer_over(
-    heap: Global,
     input: &[u8],
     securities: &mut [Security],
     holdings: &mut [Holding],
     account_holdings: &mut [AccountHolding],
     designations: &mut [Designation],
-    out: &mut Vec<u8>,
+    out: &mut String,
 ) -> Result<(), AllocError>
-    ensures { OnOk result ((text : List ℕ) × (out.new.items ≡ out.old.items ++ text) × DayAnswer input.now (counts (length securities.old) (length holdings.old) (length account_holdings.old) (length designations.old)) text) }
+    ensures { OnOk result (Appends out.old out.new (DayAnswer input.now (counts (length securities.old) (length holdings.old) (length account_holdings.old) (length designations.old)))) }
 {
     let mut list = SecurityList::over(securities, 0);
     let mut held = Holdings::over(holdings, 0);
     let mut held_in_accounts = AccountHoldings::over(account_holdings, 0);
     let mut designated = Designations::over(designations, 0);
     answer(
-        heap,
         input,
         &mut list,
         &mut held,
@@ -152,8 +148,8 @@ fn program_rows(heap: Global) -> Result<ProgramRows, AllocError>
 }
 
 // Answers an input over the program's tables.
-fn answer_day(heap: Global, input: &[u8], out: &mut Vec<u8>) -> Result<(), AllocError>
-    ensures { OnOk result ((text : List ℕ) × (out.new.items ≡ out.old.items ++ text) × DayAnswer input.now program_room text) }
+fn answer_day(heap: Global, input: &[u8], out: &mut String) -> Result<(), AllocError>
+    ensures { OnOk result (Appends out.old out.new (DayAnswer input.now program_room)) }
 {
     let ProgramRows {
         mut securities,
@@ -162,7 +158,6 @@ fn answer_day(heap: Global, input: &[u8], out: &mut Vec<u8>) -> Result<(), Alloc
         mut designations,
     } = program_rows(heap)?;
     answer_over(
-        heap,
         input,
         &mut securities,
         &mut holdings,
@@ -176,11 +171,11 @@ fn answer_day(heap: Global, input: &[u8], out: &mut Vec<u8>) -> Result<(), Alloc
 pub fn output(heap: Global, input: &[u8]) -> Result<Vec<u8>, AllocError>
     ensures { IfOk result (λ text. Output input.now program_room text.items) }
 {
-    let mut out = Vec::new(heap);
+    let mut out = String::new(heap);
     if input.len() > MOST_INPUT {
-        put_fault_numbers(heap, &mut out, Refusal::Room.number(), 0, 0, 0, 0)?;
-        return Ok(out);
+        write!(out, "{}", Fault::TooLong)?;
+    } else {
+        answer_day(heap, input, &mut out)?;
     }
-    answer_day(heap, input, &mut out)?;
-    Ok(out)
+    Ok(out.into_bytes())
 }

@@ -1,4 +1,5 @@
 ghost use Rattle.std.specs.Prelude.{◌≡◌};
+ghost use Rattle.rules.specs.Rules.{refusal_in};
 ghost use Rattle.tables.specs.Lines.{security_lines};
 ghost use Rattle.desk.specs.Events.{after_event, event_refusal, session};
 
@@ -13,20 +14,20 @@ pub(crate) fn work(
     day: &mut TradingDay,
     list: &mut SecurityList,
     link: &mut Link,
-) -> Option<Refusal>
-    ensures answer { result ≡ event_refusal (session day.old.figures (security_lines list.old) link.old) event }
+) -> Result<(), Refusal>
+    ensures answer { refusal_in result ≡ event_refusal (session day.old.figures (security_lines list.old) link.old) event }
     ensures after { session day.new.figures (security_lines list.new) link.new ≡ after_event (session day.old.figures (security_lines list.old) link.old) event }
 {
     match event {
-        Event::Step => day.step().err(),
+        Event::Step => day.step(),
         Event::Notice {
             code,
             foreign,
             total,
-        } => day.notice(list, code, foreign, total).err(),
+        } => day.notice(list, code, foreign, total),
         Event::Link { state } => {
             *link = state;
-            None
+            Ok(())
         }
     }
 }

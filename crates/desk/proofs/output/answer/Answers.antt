@@ -1,12 +1,12 @@
+use Rattle.std.proofs.lemmas.Result.{on_ok_weaker}
 use Rattle.dayfile.specs.Loads.{tables_of}
 use Rattle.desk.specs.Printed.{shown_fault}
 use Rattle.desk.proofs.Days.{day_answered, day_refused}
-use Rattle.desk.proofs.Turns.{made_so}
 use Rattle.desk.proofs.output.answer.Goals as goal
 
 pub returns-in-Ok : goal.returns-in-Ok
 returns-in-Ok c =
-    made_so c.answer_loaded.result
+    on_ok_weaker c.answer_loaded.result
     (λ done. (
       done.0,
       done.1,
@@ -19,7 +19,7 @@ returns-in-Ok c =
 
 pub returns-in-Err : goal.returns-in-Err
 returns-in-Err c =
-    made_so c.put_fault.result
+    on_ok_weaker c.write.result
     (λ wrote. (
       shown_fault c.in-Err.back.1,
       wrote,
@@ -28,4 +28,4 @@ returns-in-Err c =
           (tables_of c.load.new.list c.load.new.holdings c.load.new.account_holdings c.load.new.designations)
           c.in-Err.back.0 c.in-Err.back.1 c.in-Err.ensures,
     ))
-    c.put_fault.ensures
+    c.write.ensures.bytes
