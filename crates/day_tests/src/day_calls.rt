@@ -11,7 +11,7 @@ use rules::price::PriceBand;
 use rules::refusal::Refusal;
 use std::test::Fail;
 use tables::rows::Security;
-use tables::security_list::SecurityList;
+use tables::table::SecurityList;
 
 // Why a loading day came back, which is then given up.
 fn refusal_of(back: (LoadingDay, Refusal)) -> Refusal

@@ -1,21 +1,21 @@
-ghost use Rattle.std.specs.Prelude.{◌≡◌, Ok, Err};
+ghost use Rattle.std.specs.Prelude.{◌≡◌, ◌-◌, length, Ok, Err};
 
+use dayfile::lent::Tables;
 use dayfile::loaded::Loaded;
 use dayfile::loading::load;
 use fields::fault::{DayFault, FieldFault, LineFault};
 use gate::day::LoadingDay;
 use gate::figures::Figures;
+use lookup::key::Pair;
 use rules::buying::Buying;
 use rules::letter::Part;
 use rules::market::Market;
 use rules::phase::Phase;
 use rules::price::PriceBand;
 use rules::refusal::Refusal;
-use tables::account_holdings::AccountHoldings;
-use tables::designations::Designations;
-use tables::holdings::Holdings;
-use tables::rows::{AccountHolding, Designation, Holding, Security};
-use tables::security_list::SecurityList;
+use tables::owner::{Account, Participant};
+use tables::rows::{AccountHolding, Designation, ParticipantHolding, Security};
+use tables::table::Table;
 
 // A day part of seven lines and 382 bytes, and an event.
 const GOOD: &[u8] = b"\
@@ -47,15 +47,15 @@ const OLD_SECURITY: Security = Security {
     band: PriceBand::Five,
 };
 
-const OLD_HOLDING: Holding = Holding {
-    participant: 7,
+const OLD_HOLDING: ParticipantHolding = ParticipantHolding {
+    owner: Participant(7),
     code: 7,
     opening: 77,
     sellable: 7,
 };
 
 const OLD_ACCOUNT_HOLDING: AccountHolding = AccountHolding {
-    account: 80_000_007,
+    owner: Account(80_000_007),
     code: 7,
     opening: 77,
     sellable: 7,
@@ -66,22 +66,28 @@ const OLD_DESIGNATION: Designation = Designation {
     participant: 7,
 };
 
-// A loaded day's figures, with the place and the line of its first event, or the fault of a refused one.
+// A loaded day's figures, with the place and the line of its first event in the input, or the fault of a refused one.
 fn outcome(
+    input: &[u8],
     answer: Result<Loaded, (LoadingDay, DayFault)>,
 ) -> Result<(Figures, usize, u64), DayFault>
-    ensures { elim answer [ Ok loaded ↦ result ≡ Ok (loaded.day.figures, loaded.events, loaded.line) | Err back ↦ result ≡ Err back.1 ] }
+    ensures { elim answer.entry [ Ok loaded ↦ result ≡ Ok (loaded.day.figures, length input.now - length loaded.events.bytes.now, loaded.events.line) | Err back ↦ result ≡ Err back.1 ] }
 {
     match answer {
         Ok(loaded) => {
-            let Loaded { day, events, line } = loaded;
-            Ok((day.leave(), events, line))
+            let Loaded { day, events } = loaded;
+            let place = input.len().saturating_sub(events.bytes.len());
+            Ok((day.leave(), place, events.line))
         }
         Err(back) => {
             let (LoadingDay {}, fault) = back;
             Err(fault)
         }
     }
+}
+
+fn pair(first: u64, second: u64) -> Pair {
+    Pair { first, second }
 }
 
 // What the good day is loaded as.
@@ -120,22 +126,17 @@ fn refused(
 fn loaded_over(
     input: &[u8],
     securities: &mut [Security],
-    holdings: &mut [Holding],
+    holdings: &mut [ParticipantHolding],
     account_holdings: &mut [AccountHolding],
     designations: &mut [Designation],
 ) -> Result<(Figures, usize, u64), DayFault> {
-    let mut list = SecurityList::over(securities, 1);
-    let mut held = Holdings::over(holdings, 1);
-    let mut held_in_accounts = AccountHoldings::over(account_holdings, 1);
-    let mut designated = Designations::over(designations, 1);
-    outcome(load(
-        LoadingDay {},
-        input,
-        &mut list,
-        &mut held,
-        &mut held_in_accounts,
-        &mut designated,
-    ))
+    let mut tables = Tables {
+        securities: Table::over(securities, 1),
+        holdings: Table::over(holdings, 1),
+        account_holdings: Table::over(account_holdings, 1),
+        designations: Table::over(designations, 1),
+    };
+    outcome(input, load(LoadingDay {}, input, &mut tables))
 }
 
 #[test]
@@ -165,15 +166,15 @@ fn a_good_day_fills_the_rows_from_the_first_on(rt: HostRuntime) {
         band: PriceBand::Five,
     };
     assert_eq!(rt; securities, [first, second, OLD_SECURITY]);
-    let holding = Holding {
-        participant: 101,
+    let holding = ParticipantHolding {
+        owner: Participant(101),
         code: 600_000,
         opening: 500,
         sellable: 500,
     };
     assert_eq!(rt; holdings, [holding, OLD_HOLDING]);
     let account_holding = AccountHolding {
-        account: 80_000_001,
+        owner: Account(80_000_001),
         code: 600_000,
         opening: 300,
         sellable: 300,
@@ -246,41 +247,43 @@ fn the_lines_of_a_loaded_table_are_those_of_the_file(rt: HostRuntime) {
     let mut holdings = [OLD_HOLDING; 2];
     let mut account_holdings = [OLD_ACCOUNT_HOLDING; 2];
     let mut designations = [OLD_DESIGNATION; 2];
-    let mut list = SecurityList::over(&mut securities, 3);
-    let mut held = Holdings::over(&mut holdings, 2);
-    let mut held_in_accounts = AccountHoldings::over(&mut account_holdings, 2);
-    let mut designated = Designations::over(&mut designations, 2);
-    let answer = outcome(load(
-        LoadingDay {},
-        GOOD,
-        &mut list,
-        &mut held,
-        &mut held_in_accounts,
-        &mut designated,
-    ));
+    let mut tables = Tables {
+        securities: Table::over(&mut securities, 3),
+        holdings: Table::over(&mut holdings, 2),
+        account_holdings: Table::over(&mut account_holdings, 2),
+        designations: Table::over(&mut designations, 2),
+    };
+    let answer = outcome(GOOD, load(LoadingDay {}, GOOD, &mut tables));
     assert_eq!(rt; answer, good());
     assert_eq!(rt;
-        (list.place(600_000), list.place(600_010), list.place(7)),
+        (
+            tables.securities.place(&600_000),
+            tables.securities.place(&600_010),
+            tables.securities.place(&7),
+        ),
         (Some(0), Some(1), None)
     );
-    assert_eq!(rt; list.line(2), None);
-    assert_eq!(rt;
-        (held.place(101, 600_000), held.place(7, 7)),
-        (Some(0), None)
-    );
-    assert_eq!(rt; held.line(1), None);
+    assert_eq!(rt; tables.securities.line(2), None);
     assert_eq!(rt;
         (
-            held_in_accounts.place(80_000_001, 600_000),
-            held_in_accounts.place(80_000_007, 7),
+            tables.holdings.place(&pair(101, 600_000)),
+            tables.holdings.place(&pair(7, 7))
         ),
         (Some(0), None)
     );
-    assert_eq!(rt; held_in_accounts.line(1), None);
+    assert_eq!(rt; tables.holdings.line(1), None);
     assert_eq!(rt;
         (
-            designated.place(80_000_001, 102),
-            designated.place(80_000_007, 7),
+            tables.account_holdings.place(&pair(80_000_001, 600_000)),
+            tables.account_holdings.place(&pair(80_000_007, 7)),
+        ),
+        (Some(0), None)
+    );
+    assert_eq!(rt; tables.account_holdings.line(1), None);
+    assert_eq!(rt;
+        (
+            tables.designations.place(&pair(80_000_001, 102)),
+            tables.designations.place(&pair(80_000_007, 7)),
         ),
         (Some(0), None)
     );
@@ -298,53 +301,45 @@ fn the_lines_of_a_table_stay_where_a_day_is_refused(rt: HostRuntime) {
             participant: 8,
         },
     ];
-    let mut list = SecurityList::over(&mut securities, 2);
-    let mut held = Holdings::over(&mut holdings, 1);
-    let mut held_in_accounts = AccountHoldings::over(&mut account_holdings, 1);
-    let mut designated = Designations::over(&mut designations, 1);
-    let answer = outcome(load(
-        LoadingDay {},
-        MISCOUNTED,
-        &mut list,
-        &mut held,
-        &mut held_in_accounts,
-        &mut designated,
-    ));
+    let mut tables = Tables {
+        securities: Table::over(&mut securities, 2),
+        holdings: Table::over(&mut holdings, 1),
+        account_holdings: Table::over(&mut account_holdings, 1),
+        designations: Table::over(&mut designations, 1),
+    };
+    let answer = outcome(MISCOUNTED, load(LoadingDay {}, MISCOUNTED, &mut tables));
     assert_eq!(rt; answer, refused(Refusal::Count, 50, b'E', 6));
-    assert_eq!(rt; (list.line(1), list.line(2)), (Some(OLD_SECURITY), None));
-    assert_eq!(rt; (held.line(0), held.line(1)), (Some(OLD_HOLDING), None));
     assert_eq!(rt;
-        (held_in_accounts.line(0), held_in_accounts.line(1)),
+        (tables.securities.line(1), tables.securities.line(2)),
+        (Some(OLD_SECURITY), None)
+    );
+    assert_eq!(rt;
+        (tables.holdings.line(0), tables.holdings.line(1)),
+        (Some(OLD_HOLDING), None)
+    );
+    assert_eq!(rt;
+        (
+            tables.account_holdings.line(0),
+            tables.account_holdings.line(1)
+        ),
         (Some(OLD_ACCOUNT_HOLDING), None)
     );
     assert_eq!(rt;
         (
-            designated.place(80_000_007, 7),
-            designated.place(80_000_008, 8),
+            tables.designations.place(&pair(80_000_007, 7)),
+            tables.designations.place(&pair(80_000_008, 8)),
         ),
         (Some(0), None)
     );
 }
 
 // Loads a good day with the loading day that a refused one gave back.
-fn loaded_at_last(
-    list: &mut SecurityList,
-    holdings: &mut Holdings,
-    account_holdings: &mut AccountHoldings,
-    designations: &mut Designations,
-) -> Result<(Figures, usize, u64), DayFault> {
-    match load(
-        LoadingDay {},
-        MISCOUNTED,
-        list,
-        holdings,
-        account_holdings,
-        designations,
-    ) {
-        Ok(loaded) => outcome(Ok(loaded)),
+fn loaded_at_last(tables: &mut Tables) -> Result<(Figures, usize, u64), DayFault> {
+    match load(LoadingDay {}, MISCOUNTED, tables) {
+        Ok(loaded) => outcome(MISCOUNTED, Ok(loaded)),
         Err(back) => {
             let (day, _) = back;
-            outcome(load(day, GOOD, list, holdings, account_holdings, designations))
+            outcome(GOOD, load(day, GOOD, tables))
         }
     }
 }
@@ -355,12 +350,11 @@ fn a_good_day_may_follow_a_refused_one(rt: HostRuntime) {
     let mut holdings = [OLD_HOLDING; 1];
     let mut account_holdings = [OLD_ACCOUNT_HOLDING; 1];
     let mut designations = [OLD_DESIGNATION; 1];
-    let mut list = SecurityList::over(&mut securities, 0);
-    let mut held = Holdings::over(&mut holdings, 0);
-    let mut held_in_accounts = AccountHoldings::over(&mut account_holdings, 0);
-    let mut designated = Designations::over(&mut designations, 0);
-    assert_eq!(rt;
-        loaded_at_last(&mut list, &mut held, &mut held_in_accounts, &mut designated),
-        good()
-    );
+    let mut tables = Tables {
+        securities: Table::over(&mut securities, 0),
+        holdings: Table::over(&mut holdings, 0),
+        account_holdings: Table::over(&mut account_holdings, 0),
+        designations: Table::over(&mut designations, 0),
+    };
+    assert_eq!(rt; loaded_at_last(&mut tables), good());
 }

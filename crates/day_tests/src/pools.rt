@@ -1,22 +1,18 @@
 ghost use Rattle.std.specs.Prelude.{◌≡◌};
 ghost use Rattle.registers.specs.Meaning.{opening_of, sellable_of};
 
+use dayfile::lent::Tables;
 use dayfile::loaded::Loaded;
 use dayfile::loading::load;
 use fields::fault::DayFault;
 use gate::day::LoadingDay;
 use registers::Register;
-use registers::accounts::AccountRegister;
-use registers::participants::ParticipantRegister;
-use rules::buying::Buying;
-use rules::price::PriceBand;
+use registers::accounts::{AccountRegister, Designated};
+use registers::participants::{Own, ParticipantRegister};
 use rules::refusal::Refusal;
 use std::test::Fail;
-use tables::account_holdings::AccountHoldings;
-use tables::designations::Designations;
-use tables::holdings::Holdings;
-use tables::rows::{AccountHolding, Designation, Holding, Security};
-use tables::security_list::SecurityList;
+use tables::rows::{AccountHolding, Designation, ParticipantHolding, Security};
+use tables::table::Table;
 
 // A morning with three holdings of participants, two of accounts, and three designations.
 const MORNING: &[u8] = b"\
@@ -32,54 +28,11 @@ G        80000002             205
 E               0               3               2               3
 ";
 
-const NO_SECURITY: Security = Security {
-    code: 0,
-    buying: Buying::Open,
-    close: 0,
-    band: PriceBand::Five,
-};
-
-const NO_HOLDING: Holding = Holding {
-    participant: 0,
-    code: 0,
-    opening: 0,
-    sellable: 0,
-};
-
-const NO_ACCOUNT_HOLDING: AccountHolding = AccountHolding {
-    account: 0,
-    code: 0,
-    opening: 0,
-    sellable: 0,
-};
-
-const NO_DESIGNATION: Designation = Designation {
-    account: 0,
-    participant: 0,
-};
-
 // Loads the morning, and leaves its day.
-fn load_morning(
-    holdings: &mut Holdings,
-    account_holdings: &mut AccountHoldings,
-    designations: &mut Designations,
-) -> Result<(), DayFault> {
-    let mut securities = [NO_SECURITY; 1];
-    let mut list = SecurityList::over(&mut securities, 0);
-    match load(
-        LoadingDay {},
-        MORNING,
-        &mut list,
-        holdings,
-        account_holdings,
-        designations,
-    ) {
+fn load_morning(tables: &mut Tables) -> Result<(), DayFault> {
+    match load(LoadingDay {}, MORNING, tables) {
         Ok(loaded) => {
-            let Loaded {
-                day,
-                events: _,
-                line: _,
-            } = loaded;
+            let Loaded { day, events: _ } = loaded;
             day.leave();
             Ok(())
         }
@@ -100,15 +53,26 @@ fn pool<R: Register>(register: &R, number: usize) -> (Option<u64>, Option<u64>)
 
 #[test]
 fn participants_sell_what_they_hold(rt: HostRuntime) -> Result<(), Fail> {
-    let mut holdings = [NO_HOLDING; 4];
-    let mut account_holdings = [NO_ACCOUNT_HOLDING; 2];
-    let mut designations = [NO_DESIGNATION; 3];
-    let mut held = Holdings::over(&mut holdings, 0);
-    let mut held_in_accounts = AccountHoldings::over(&mut account_holdings, 0);
-    let mut designated = Designations::over(&mut designations, 0);
-    load_morning(&mut held, &mut held_in_accounts, &mut designated)?;
+    let mut securities = [Security::default(); 1];
+    let mut holdings = [ParticipantHolding::default(); 4];
+    let mut account_holdings = [AccountHolding::default(); 2];
+    let mut designations = [Designation::default(); 3];
+    let mut tables = Tables {
+        securities: Table::over(&mut securities, 0),
+        holdings: Table::over(&mut holdings, 0),
+        account_holdings: Table::over(&mut account_holdings, 0),
+        designations: Table::over(&mut designations, 0),
+    };
+    load_morning(&mut tables)?;
+    let Tables {
+        securities: _,
+        mut holdings,
+        account_holdings: _,
+        designations: _,
+    } = tables;
     let mut register = ParticipantRegister {
-        holdings: &mut held,
+        holdings: &mut holdings,
+        rule: Own,
     };
     assert_eq!(rt; pool(&register, 0), (Some(500), Some(500)));
     assert_eq!(rt; pool(&register, 1), (Some(12_000), Some(12_000)));
@@ -131,16 +95,28 @@ fn participants_sell_what_they_hold(rt: HostRuntime) -> Result<(), Fail> {
 
 #[test]
 fn designated_participants_sell_what_accounts_hold(rt: HostRuntime) -> Result<(), Fail> {
-    let mut holdings = [NO_HOLDING; 3];
-    let mut account_holdings = [NO_ACCOUNT_HOLDING; 3];
-    let mut designations = [NO_DESIGNATION; 3];
-    let mut held = Holdings::over(&mut holdings, 0);
-    let mut held_in_accounts = AccountHoldings::over(&mut account_holdings, 0);
-    let mut designated = Designations::over(&mut designations, 0);
-    load_morning(&mut held, &mut held_in_accounts, &mut designated)?;
+    let mut securities = [Security::default(); 1];
+    let mut holdings = [ParticipantHolding::default(); 3];
+    let mut account_holdings = [AccountHolding::default(); 3];
+    let mut designations = [Designation::default(); 3];
+    let mut tables = Tables {
+        securities: Table::over(&mut securities, 0),
+        holdings: Table::over(&mut holdings, 0),
+        account_holdings: Table::over(&mut account_holdings, 0),
+        designations: Table::over(&mut designations, 0),
+    };
+    load_morning(&mut tables)?;
+    let Tables {
+        securities: _,
+        holdings: _,
+        mut account_holdings,
+        designations,
+    } = tables;
     let mut register = AccountRegister {
-        holdings: &mut held_in_accounts,
-        designations: &designated,
+        holdings: &mut account_holdings,
+        rule: Designated {
+            designations: &designations,
+        },
     };
     assert_eq!(rt; pool(&register, 0), (Some(300), Some(300)));
     assert_eq!(rt; pool(&register, 1), (Some(4500), Some(4500)));

@@ -1,5 +1,5 @@
 -- The answer to a day that is loaded, and to one that is refused.
-use Rattle.std.proofs.Common.{◌≡◌, ℕ, List, [], ◌++◌, drop, Ok, Err, Result, String, string_bytes, sym, refl, ap, ◌∙◌, subst, rules}
+use Rattle.std.proofs.Common.{◌≡◌, ℕ, List, [], ◌++◌, Ok, Err, Result, String, string_bytes, sym, refl, ap, ◌∙◌, subst, rules}
 use Rattle.std.specs.declared.alloc.Global.{Global}
 use Rattle.rules.specs.declared.letter.Part.TheVariants as part
 use Rattle.fields.specs.declared.fault.DayFault.{DayFault}
@@ -8,10 +8,11 @@ use Rattle.fields.specs.Faults.{day_at}
 use Rattle.gate.specs.declared.day.LoadingDay.{LoadingDay}
 use Rattle.dayfile.specs.declared.loaded.Loaded.{Loaded}
 use Rattle.dayfile.specs.declared.plan.Counts.{Counts}
-use Rattle.dayfile.specs.declared.plan.Plan.{Plan}
-use Rattle.dayfile.specs.DayPart.{day_part}
+use Rattle.dayfile.specs.DayPart.{Plan, day_part}
 use Rattle.dayfile.specs.Description.{Describes, Description, described, plan_of}
-use Rattle.dayfile.specs.Loads.{Holds, Load, Tables, lines_of, room_of}
+use Rattle.tables.specs.Tables.{lines_of}
+use Rattle.dayfile.specs.declared.lent.Tables.{Tables}
+use Rattle.dayfile.specs.Loads.{Holds, Load, room_of}
 use Rattle.dayfile.proofs.Law.{day_written}
 use Rattle.desk.specs.declared.event.Link.TheVariants.{Up}
 use Rattle.desk.specs.Answered.{Answered}
@@ -29,7 +30,7 @@ listed input room after made d is describes holds =
     holds.securities ∙ ap (λ (x : Description). x.securities) (sym w.1) ∙ ap (λ (p : Plan). (described input p).securities) (same_plan (day_part input room) (plan_of d) made w.0 is)
 
 -- a day that is loaded is answered as its events are
-pub day_answered : (input : List ℕ) (before after : Tables) (l : Loaded) (text : List ℕ) → Load input before (Ok l) after → Answered (session l.day.figures (lines_of after.securities) Up) l.line (drop l.events input) text → DayAnswer input (room_of before) text
+pub day_answered : (input : List ℕ) (before after : Tables) (l : Loaded) (text : List ℕ) → Load input before (Ok l) after → Answered (session l.day.figures (lines_of after.securities) Up) l.events.line l.events.bytes.now text → DayAnswer input (room_of before) text
 day_answered input before after l text load events =
     let made = load.answers.0 in
     let begins = load.answers.2 in

@@ -1,3 +1,3 @@
+pub mod Columns
 pub mod Turns
 pub mod Days
-pub mod Columns

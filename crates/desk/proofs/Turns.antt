@@ -1,7 +1,6 @@
 -- One turn of the event loop.
-use Rattle.std.proofs.Common.{◌≡◌, ℕ, ◌+◌, ◌<◌, ◌≤◌, List, [], ◌++◌, length, get_or, drop, Ok, Err, Result, append_assoc, append-nil, arith, rules, String, string_bytes}
+use Rattle.std.proofs.Common.{◌≡◌, ℕ, ◌+◌, ◌<◌, true, false, eqb, List, [], ◌∷◌, ◌++◌, length, get_or, drop, Ok, Err, Result, append_assoc, append-nil, refl, arith, rules, String, string_bytes}
 use Rattle.std.specs.declared.alloc.Global.{Global}
-use Rattle.std.proofs.lemmas.List.{drop-drop, drop_all, length-drop}
 use Rattle.rules.specs.declared.letter.Part.TheVariants as part
 use Rattle.fields.specs.declared.fault.DayFault.{DayFault}
 use Rattle.fields.specs.declared.fault.FieldFault.{FieldFault}
@@ -29,26 +28,31 @@ Goes s₀ nr₀ rest₀ text s nr rest = (more : List ℕ) → Answered s nr res
 behind : (before out after : String Global) (text more : List ℕ) → string_bytes out ≡ string_bytes before ++ text → string_bytes after ≡ string_bytes out ++ more → string_bytes after ≡ string_bytes before ++ (text ++ more)
 behind before out after text more first then = search (rules, first, then, append_assoc)
 
-module _ (s₀ : Session) (nr₀ : ℕ) (rest₀ : List ℕ) (input : List ℕ) (s : Session) (nr from : ℕ) (before out : String Global) (so_far : Appends before out (λ text. Goes s₀ nr₀ rest₀ text s nr (drop from input))) where
-  pub one_more : (e : Event) (s' : Session) (w : ℕ) (after : String Global) → Ok e ≡ day_at part.Event (line_at (get_or (drop from input) 0 0) nr (event_of (drop from input))) → s' ≡ after_event s e → w ≡ width_of (event_letter e)
-      → string_bytes after ≡ string_bytes out ++ event_answer s e → Appends before after (λ text. Goes s₀ nr₀ rest₀ text s' (nr + 1) (drop (from + w) input))
-  one_more e s' w after q a we wrote = (
+some_left : (rest : List ℕ) → false ≡ eqb (length rest) 0 → 0 < length rest
+some_left [] e = grind arith
+some_left (b ∷ bs) e = omega arith
+
+none_left : (rest : List ℕ) → true ≡ eqb (length rest) 0 → rest ≡ []
+none_left [] e = refl
+none_left (b ∷ bs) e = grind arith
+
+module _ (s₀ : Session) (nr₀ : ℕ) (rest₀ : List ℕ) (s : Session) (nr : ℕ) (rest : List ℕ) (before out : String Global) (so_far : Appends before out (λ text. Goes s₀ nr₀ rest₀ text s nr rest)) where
+  pub one_more : (e : Event) (s' : Session) (nr' : ℕ) (rest' : List ℕ) (after : String Global) → Ok e ≡ day_at part.Event (line_at (get_or rest 0 0) nr (event_of rest)) → s' ≡ after_event s e → nr' ≡ nr + 1 → rest' ≡ drop (width_of (event_letter e)) rest
+      → string_bytes after ≡ string_bytes out ++ event_answer s e → Appends before after (λ text. Goes s₀ nr₀ rest₀ text s' nr' rest')
+  one_more e s' nr' rest' after q a n r wrote = (
     so_far.0 ++ event_answer s e,
     behind before out after so_far.0 (event_answer s e) so_far.1 wrote,
-    λ more answered.
-        let here : Answered (after_event s e) (nr + 1) (drop (width_of (event_letter e)) (drop from input)) more = rw drop-drop (rw (a, we) at answered) in
-        rw (append_assoc so_far.0 (event_answer s e) more) (so_far.2 _ (next (drop from input) e more (event_ok _ _ nr e q) here)),
+    λ more answered. rw (append_assoc so_far.0 (event_answer s e) more) (so_far.2 _ (next rest e more (event_ok _ _ nr e q) (rw (a, n, r) at answered))),
   )
 
-  pub at_fault : (fault : DayFault) (after : String Global) → from < length input → Err fault ≡ day_at part.Event (line_at (get_or (drop from input) 0 0) nr (event_of (drop from input)))
+  pub at_fault : (fault : DayFault) (after : String Global) → false ≡ eqb (length rest) 0 → Err fault ≡ day_at part.Event (line_at (get_or rest 0 0) nr (event_of rest))
       → string_bytes after ≡ string_bytes out ++ shown_fault fault → Appends before after (Answered s₀ nr₀ rest₀)
-  at_fault fault after l q wrote =
-      let f = event_err (event_of (drop from input)) (get_or (drop from input) 0 0) nr fault q in
-      let some : 0 < length (drop from input) = rw (length-drop from input) (omega arith) in (
+  at_fault fault after some q wrote =
+      let f = event_err (event_of rest) (get_or rest 0 0) nr fault q in (
         so_far.0 ++ shown_fault fault,
         behind before out after so_far.0 (shown_fault fault) so_far.1 wrote,
-        rw f.2 (so_far.2 _ (faulty (drop from input) f.0 some f.1)),
+        rw f.2 (so_far.2 _ (faulty rest f.0 (some_left rest some) f.1)),
       )
 
-  pub at_end : length input ≤ from → Appends before out (Answered s₀ nr₀ rest₀)
-  at_end l = (so_far.0, so_far.1, rw append-nil at (so_far.2 [] (rw (drop_all from input l) over)))
+  pub at_end : true ≡ eqb (length rest) 0 → Appends before out (Answered s₀ nr₀ rest₀)
+  at_end e = (so_far.0, so_far.1, rw append-nil at (so_far.2 [] (rw (none_left rest e) over)))

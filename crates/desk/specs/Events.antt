@@ -15,6 +15,8 @@ use Rattle.fields.specs.Numbers.{numbers_from}
 use Rattle.gate.specs.declared.figures.Figures.{Figures}
 use Rattle.gate.specs.Calls.{Desk, Call, desk, step, notice, refusal_of, accepted}
 use Rattle.dayfile.specs.Rows.{named_case}
+use Rattle.tables.specs.Tables.{lines_of}
+use Rattle.desk.specs.declared.session.Session.{Session as Open}
 use Rattle.desk.specs.declared.event.Link.{Link}
 use Rattle.desk.specs.declared.event.Link.TheVariants.{Down, Up}
 use Rattle.desk.specs.declared.event.Event.{Event}
@@ -63,6 +65,10 @@ pub record Session : Type 0 where
 -- A session of its parts.
 abbrev pub session : Figures → List Security → Link → Session
 session figures list link = record { desk = desk figures list; link = link }
+
+-- The session that the events work on, as its day, its securities and its link stand.
+abbrev pub session_of : Open → Session
+session_of s = session s.day.figures (lines_of s.list.now) s.link
 
 -- The desk after a call on it, accepted or refused.
 abbrev pub called : Desk → Call → Desk

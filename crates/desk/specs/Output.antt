@@ -7,8 +7,7 @@ use Rattle.fields.specs.declared.fault.LineFault.{LineFault}
 use Rattle.gate.specs.declared.figures.Figures.{Figures}
 use Rattle.gate.specs.Opened.{OpenedBy}
 use Rattle.dayfile.specs.declared.plan.Counts.{Counts}
-use Rattle.dayfile.specs.declared.plan.Plan.{Plan}
-use Rattle.dayfile.specs.DayPart.{counts, day_part}
+use Rattle.dayfile.specs.DayPart.{Plan, counts, day_part}
 use Rattle.dayfile.specs.Description.{described}
 use Rattle.desk.specs.declared.event.Link.TheVariants.{Up}
 use Rattle.desk.specs.Answered.{Answered}

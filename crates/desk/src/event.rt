@@ -1,8 +1,9 @@
 ghost use Rattle.std.specs.Prelude.{◌≡◌};
 ghost use Rattle.std.specs.Option.{ok_or};
 ghost use Rattle.rules.specs.declared.refusal.Refusal.TheVariants as refusal;
-ghost use Rattle.desk.specs.Events.{link_numbered};
+ghost use Rattle.desk.specs.Events.{event_letter, link_numbered};
 
+use rules::letter::Letter;
 use rules::refusal::Refusal;
 
 // Whether the link to the market is up.
@@ -33,4 +34,17 @@ pub enum Event {
     Step,
     Notice { code: u64, foreign: u64, total: u64 },
     Link { state: Link },
+}
+
+impl Event {
+    // The letter of the event's line.
+    pub(crate) fn letter(self) -> Letter
+        ensures { result ≡ event_letter self }
+    {
+        match self {
+            Event::Step => Letter::Step,
+            Event::Notice { .. } => Letter::Notice,
+            Event::Link { .. } => Letter::Link,
+        }
+    }
 }

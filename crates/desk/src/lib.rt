@@ -5,5 +5,4 @@ pub mod event;
 pub mod output;
 mod printing;
 mod reading;
-mod running;
-mod working;
+mod session;

@@ -7,7 +7,8 @@ ghost use Rattle.desk.specs.Events.{event_letter, event_of};
 use super::event::{Event, Link};
 use fields::fault::{DayFault, FieldFault, LineFault};
 use fields::line::{EventLine, first_byte};
-use rules::letter::{Letter, Part};
+use fields::rest::Rest;
+use rules::letter::Part;
 use rules::range::Quantity;
 
 // The event that the input goes on with.
@@ -39,32 +40,21 @@ fn event(rest: &[u8]) -> Result<Event, FieldFault>
     }
 }
 
-// The event in the line of a number.
-fn numbered_event(rest: &[u8], line: u64) -> Result<Event, LineFault>
-    ensures is { result ≡ line_at (slice_index rest.now 0) line (event_of rest.now) }
-    ensures long { IfOk result (λ e. width_of (event_letter e) ≤ length rest.now) }
+// The event in the first line of what is left.
+fn line_event(rest: &Rest) -> Result<Event, LineFault>
+    ensures is { result ≡ line_at (slice_index rest.now.bytes.now 0) rest.now.line (event_of rest.now.bytes.now) }
+    ensures long { IfOk result (λ e. width_of (event_letter e) ≤ length rest.now.bytes.now) }
 {
-    let letter = first_byte(rest);
-    let event = event(rest).map_err(|f| (f, letter, line))?;
+    let (letter, line) = (first_byte(rest.bytes), rest.line);
+    let event = event(rest.bytes).map_err(|f| (f, letter, line))?;
     Ok(event)
 }
 
-// The event in the line of a number of the event part.
-pub(crate) fn read_event(rest: &[u8], line: u64) -> Result<Event, DayFault>
-    ensures is { result ≡ day_at part.Event (line_at (slice_index rest.now 0) line (event_of rest.now)) }
-    ensures long { IfOk result (λ e. width_of (event_letter e) ≤ length rest.now) }
+// The event in the first line of what is left of the event part.
+pub(crate) fn read_event(rest: &Rest) -> Result<Event, DayFault>
+    ensures is { result ≡ day_at part.Event (line_at (slice_index rest.now.bytes.now 0) rest.now.line (event_of rest.now.bytes.now)) }
+    ensures long { IfOk result (λ e. width_of (event_letter e) ≤ length rest.now.bytes.now) }
 {
-    let event = numbered_event(rest, line).map_err(|f| (f, Part::Event))?;
+    let event = line_event(rest).map_err(|f| (f, Part::Event))?;
     Ok(event)
-}
-
-// The letter of an event.
-pub(crate) fn letter(event: Event) -> Letter
-    ensures { result ≡ event_letter event }
-{
-    match event {
-        Event::Step => Letter::Step,
-        Event::Notice { .. } => Letter::Notice,
-        Event::Link { .. } => Letter::Link,
-    }
 }

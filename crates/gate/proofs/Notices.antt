@@ -1,5 +1,5 @@
 -- What a notice leaves.
-use Rattle.std.proofs.Common.{◌≡◌, ℕ, ◌<◌, ◌≤◌, false, List, map, length, get_or, take, set, Some, None, refl, arith}
+use Rattle.std.proofs.Common.{◌≡◌, ℕ, ◌<◌, false, List, map, length, get_or, take, set, Some, None, refl, arith}
 use Rattle.std.proofs.lemmas.List.{length-map, length-take}
 use Rattle.rules.specs.Notices.{notice_band, unfit_notice}
 use Rattle.tables.specs.declared.rows.Security.{Security}

@@ -7,8 +7,9 @@ use super::notice::NoticeBand;
 use super::refusal::Refusal;
 
 // Whether a security may be bought.
-#[derive(Clone, Copy, PartialEq, Eq, Debug)]
+#[derive(Clone, Copy, PartialEq, Eq, Debug, Default)]
 pub enum Buying {
+    #[default]
     Open,
     SellOnly,
     Suspended,

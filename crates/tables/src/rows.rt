@@ -9,7 +9,7 @@ use rules::price::PriceBand;
 use rules::range::Quantity;
 
 // A security that is traded: whether it may be bought, and what its prices are held to.
-#[derive(Clone, Copy, PartialEq, Eq, Debug)]
+#[derive(Clone, Copy, PartialEq, Eq, Debug, Default)]
 pub struct Security {
     pub code: u64,
     pub buying: Buying,

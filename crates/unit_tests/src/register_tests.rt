@@ -1,16 +1,15 @@
 use registers::Register;
-use registers::accounts::AccountRegister;
-use registers::participants::ParticipantRegister;
+use registers::accounts::{AccountRegister, Designated};
+use registers::participants::{Own, ParticipantRegister};
 use rules::refusal::Refusal;
 use std::test::Fail;
-use tables::account_holdings::AccountHoldings;
-use tables::designations::Designations;
-use tables::holdings::Holdings;
-use tables::rows::{AccountHolding, Designation, Holding};
+use tables::owner::{Account, Participant};
+use tables::rows::{AccountHolding, Designation, ParticipantHolding};
+use tables::table::{AccountHoldings, Designations, Holdings};
 
-fn holding(participant: u64, sellable: u64) -> Holding {
-    Holding {
-        participant,
+fn holding(participant: u64, sellable: u64) -> ParticipantHolding {
+    ParticipantHolding {
+        owner: Participant(participant),
         code: 1,
         opening: 100,
         sellable,
@@ -23,6 +22,7 @@ fn draws_and_restores(rt: HostRuntime) -> Result<(), Fail> {
     let mut holdings = Holdings::over(&mut rows, 1);
     let mut register = ParticipantRegister {
         holdings: &mut holdings,
+        rule: Own,
     };
     let pool = register.find(7, 0, 1)?;
     register.draw(pool, 100)?;
@@ -42,6 +42,7 @@ fn finds_a_participants_line(rt: HostRuntime) {
     let mut holdings = Holdings::over(&mut rows, 1);
     let register = ParticipantRegister {
         holdings: &mut holdings,
+        rule: Own,
     };
     assert_eq!(rt; register.find(7, 0, 1), Ok(0));
     assert_eq!(rt; register.find(7, 80_000_000, 1), Err(Refusal::Account));
@@ -56,7 +57,7 @@ fn finds_a_participants_line(rt: HostRuntime) {
 #[test]
 fn finds_an_accounts_line(rt: HostRuntime) {
     let mut rows = [AccountHolding {
-        account: 80_000_000,
+        owner: Account(80_000_000),
         code: 1,
         opening: 5,
         sellable: 5,
@@ -69,7 +70,9 @@ fn finds_an_accounts_line(rt: HostRuntime) {
     let designations = Designations::over(&mut named, 1);
     let register = AccountRegister {
         holdings: &mut holdings,
-        designations: &designations,
+        rule: Designated {
+            designations: &designations,
+        },
     };
     assert_eq!(rt; register.find(7, 80_000_000, 1), Ok(0));
     assert_eq!(rt; register.find(7, 80_000_001, 1), Err(Refusal::Account));
@@ -83,6 +86,7 @@ fn stops_at_the_first_row_not_before(rt: HostRuntime) {
     let mut holdings = Holdings::over(&mut rows, 2);
     let register = ParticipantRegister {
         holdings: &mut holdings,
+        rule: Own,
     };
     assert_eq!(rt; register.find(5, 0, 1), Ok(0));
     assert_eq!(rt; register.find(3, 0, 1), Err(Refusal::NoPosition));
@@ -94,6 +98,7 @@ fn passes_over_an_absent_row(rt: HostRuntime) {
     let mut holdings = Holdings::over(&mut rows, 2);
     let mut register = ParticipantRegister {
         holdings: &mut holdings,
+        rule: Own,
     };
     assert_eq!(rt; register.find(9, 0, 1), Err(Refusal::NoPosition));
     assert_eq!(rt; register.find(7, 0, 1), Ok(1));
