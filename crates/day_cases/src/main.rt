@@ -48,10 +48,12 @@ fn put_line(heap: Global, day: &mut Vec<u8>, line: &str) -> anyhow::Result<()>
     Ok(())
 }
 
-// Writes the answer to a day.
-fn put_answer(heap: Global, out: &mut Vec<u8>, day: &[u8]) -> anyhow::Result<()>
+// Writes the title of a case and the answer to its day.
+fn put_case(heap: Global, out: &mut Vec<u8>, title: &str, day: &[u8]) -> anyhow::Result<()>
     ensures { OnOk result (Grown out.old.items out.new.items) }
 {
+    out.extend_from_slice(title.as_bytes())?;
+    out.push(b'\n')?;
     let answer = output(heap, day)?;
     for line in from_utf8(&answer)?.lines() {
         put_closed(out, line.as_bytes())?;
@@ -63,22 +65,20 @@ fn put_answer(heap: Global, out: &mut Vec<u8>, day: &[u8]) -> anyhow::Result<()>
 fn answers(heap: Global, text: &str) -> anyhow::Result<Vec<u8>> {
     let mut out = Vec::new(heap);
     let mut day = Vec::new(heap);
-    let mut begun = false;
+    let mut begun: Option<&str> = None;
     for line in text.lines() {
         if !line.starts_with("= ") {
             put_line(heap, &mut day, line)?;
             continue;
         }
-        if begun {
-            put_answer(heap, &mut out, &day)?;
+        if let Some(title) = begun {
+            put_case(heap, &mut out, title, &day)?;
         }
-        begun = true;
+        begun = Some(line);
         day.clear();
-        out.extend_from_slice(line.as_bytes())?;
-        out.push(b'\n')?;
     }
-    if begun {
-        put_answer(heap, &mut out, &day)?;
+    if let Some(title) = begun {
+        put_case(heap, &mut out, title, &day)?;
     }
     Ok(out)
 }

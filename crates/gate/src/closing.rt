@@ -12,16 +12,7 @@ impl TradingDay {
     pub fn close(self) -> Result<ClosedDay, (TradingDay, Refusal)>
         ensures { MatchResult result (λ closed. (first_broken (closing_rules self.figures) ≡ None) × (closed.figures ≡ self.figures)) (λ back. (first_broken (closing_rules self.figures) ≡ Some back.1) × (back.0.figures ≡ self.figures)) }
     {
-        match self.figures.phase {
-            Phase::AfterHours => {}
-            Phase::OpeningCall
-            | Phase::OpeningCallNoCancel
-            | Phase::Continuous
-            | Phase::ClosingCall => {
-                return Err((self, Refusal::Business));
-            }
-        }
-        if self.figures.count > 0 {
+        if self.figures.phase != Phase::AfterHours || self.figures.count > 0 {
             return Err((self, Refusal::Business));
         }
         let TradingDay { figures } = self;

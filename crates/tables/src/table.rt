@@ -56,9 +56,10 @@ impl<R: Row> Table<'_, R> {
         }
     }
 
-    // How many lines there is room for.
+    // How many lines there is room for, which are at least those that there are.
     pub fn room(&self) -> usize
-        ensures { result ≡ length self.now.rows }
+        ensures rows { result ≡ length self.now.rows }
+        ensures fits { self.now.count ≤ result }
     {
         self.rows.len()
     }

@@ -1,6 +1,6 @@
 use Rattle.std.proofs.Common.{vec_items}
 use Rattle.day_cases.specs.Written.{Grown}
-use Rattle.day_cases.proofs.put_answer.Given as goal
+use Rattle.day_cases.proofs.put_case.Given as goal
 
 -- What was there before the loop stays.
 abbrev pub invariant-loop-line : goal.invariant-loop-line
