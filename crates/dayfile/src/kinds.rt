@@ -1,17 +1,15 @@
 ghost use Rattle.std.specs.Prelude.{◌≡◌};
-ghost use Rattle.tables.specs.Rows.{pair};
-ghost use Rattle.dayfile.specs.Kinds.{above, naming, named_next, security_kind, holding_kind, account_holding_kind, designation_kind};
+ghost use Rattle.dayfile.specs.Kinds.{above, naming, named_next, security_kind, held_kind, designation_kind};
 ghost use Rattle.std.proofs.Common.{rules};
 
 use super::group::Entry;
-use super::rows::{account_holding, designation, holding, security};
+use super::rows::{HeldLine, designation, security};
 use super::run::Run;
 use fields::fault::FieldFault;
 use lookup::key::{Key, Pair};
 use rules::letter::Letter;
 use rules::refusal::Refusal;
-use tables::owner::Owner;
-use tables::rows::{AccountHolding, Designation, Holding, ParticipantHolding, Security};
+use tables::rows::{Designation, Holding, Security};
 
 // An account may name so many participants.
 const MOST_NAMED: u64 = 20;
@@ -27,16 +25,6 @@ fn rising<K: Key>(last: Option<K>, key: K) -> Result<Option<K>, FieldFault>
             cause: Refusal::Sequence,
             column: 1,
         })
-    }
-}
-
-// The key of a holding.
-fn owned<O: Owner>(row: &Holding<O>) -> Pair
-    ensures { result ≡ pair (O.number row.now.owner) row.now.code }
-{
-    Pair {
-        first: row.owner.number(),
-        second: row.code,
     }
 }
 
@@ -100,51 +88,31 @@ impl Entry for Security {
     }
 }
 
-impl Entry for ParticipantHolding {
+impl<O: HeldLine> Entry for Holding<O> {
     type State = Option<Pair>;
 
-    ghost kind = { holding_kind };
+    ghost kind = { held_kind O.letter O.of O.number };
 
-    ghost long = { Prim.search rules };
+    ghost long = { O.long };
 
     fn letter() -> Letter {
-        Letter::Holding
+        O::letter()
     }
 
-    fn read(line: &[u8]) -> Result<ParticipantHolding, FieldFault> {
-        holding(line)
+    fn read(line: &[u8]) -> Result<Holding<O>, FieldFault> {
+        O::holding(line)
     }
 
     fn first() -> Option<Pair> {
         None
     }
 
-    fn step(last: Option<Pair>, row: &ParticipantHolding) -> Result<Option<Pair>, FieldFault> {
-        rising(last, owned(row))
-    }
-}
-
-impl Entry for AccountHolding {
-    type State = Option<Pair>;
-
-    ghost kind = { account_holding_kind };
-
-    ghost long = { Prim.search rules };
-
-    fn letter() -> Letter {
-        Letter::AccountHolding
-    }
-
-    fn read(line: &[u8]) -> Result<AccountHolding, FieldFault> {
-        account_holding(line)
-    }
-
-    fn first() -> Option<Pair> {
-        None
-    }
-
-    fn step(last: Option<Pair>, row: &AccountHolding) -> Result<Option<Pair>, FieldFault> {
-        rising(last, owned(row))
+    fn step(last: Option<Pair>, row: &Holding<O>) -> Result<Option<Pair>, FieldFault> {
+        let key = Pair {
+            first: row.owner.number(),
+            second: row.code,
+        };
+        rising(last, key)
     }
 }
 

@@ -19,7 +19,7 @@ pub struct Counts {
 
 // A day part as it is judged: its opening, how many lines its groups have, and what is left for the events.
 #[derive(Drop)]
-pub(crate) struct Plan<'a> {
+pub struct Plan<'a> {
     pub opening: Opening,
     pub counts: Counts,
     pub events: Rest<'a>,

@@ -1,18 +1,23 @@
-ghost use Rattle.std.specs.Prelude.{◌≡◌, [], ◌∷◌};
+ghost use Rattle.std.specs.Prelude.{◌≡◌, ℕ, ◌≤◌, List, [], ◌∷◌, length, Ok};
+ghost use Rattle.rules.specs.declared.letter.Letter.{Letter as a_letter};
+ghost use Rattle.tables.specs.declared.rows.Holding.{Holding as a_holding};
+ghost use Rattle.fields.specs.Layout.{width_of};
+ghost use Rattle.std.proofs.Common.{rules};
 ghost use Rattle.rules.specs.declared.letter.Letter.TheVariants as letter;
 ghost use Rattle.rules.specs.declared.range.Quantity.TheVariants as quantity;
 ghost use Rattle.fields.specs.Faults.{and_then};
 ghost use Rattle.fields.specs.Reading.{ranging};
-ghost use Rattle.dayfile.specs.Rows.{security_of, held_of, holding_of, account_holding_of, designation_of, out_of_place, misplaced, line_of};
+ghost use Rattle.dayfile.specs.Rows.{security_of, held_of, designation_of, out_of_place, misplaced, line_of};
 
 use fields::fault::FieldFault;
 use fields::field::Field;
 use fields::line::DayLine;
 use rules::buying::Buying;
+use rules::letter::Letter;
 use rules::price::PriceBand;
 use rules::range::Quantity;
 use rules::refusal::Refusal;
-use tables::owner::Owner;
+use tables::owner::{Account, Owner, Participant};
 use tables::rows::{AccountHolding, Designation, Holding, ParticipantHolding, Security};
 
 // Judges the fields of a line, whatever its kind.
@@ -142,29 +147,58 @@ fn held<O: Owner>(owner: Field, code: Field, shares: Field) -> Result<Holding<O>
     })
 }
 
-pub(crate) fn holding(line: &[u8]) -> Result<ParticipantHolding, FieldFault>
-    ensures { result ≡ line_of letter.Holding holding_of line.now }
-{
-    match DayLine::cut(line)? {
-        DayLine::Holding {
-            participant,
-            code,
-            shares,
-        } => held(participant, code, shares),
-        _ => Err(out_of_group(line)),
+// An owner whose holdings have lines of their own.
+pub(crate) trait HeldLine: Owner {
+    ghost letter: { a_letter };
+
+    fn letter() -> Letter
+        ensures { result ≡ letter };
+
+    fn holding(line: &[u8]) -> Result<Holding<Self>, FieldFault>
+        ensures { result ≡ line_of letter (held_of Self.of) line.now };
+
+    ghost long: { (line : List ℕ) (x : a_holding Self) → line_of letter (held_of Self.of) line ≡ Ok x → width_of letter ≤ length line };
+}
+
+impl HeldLine for Participant {
+    ghost letter = { letter.Holding };
+
+    ghost long = { Prim.search rules };
+
+    fn letter() -> Letter {
+        Letter::Holding
+    }
+
+    fn holding(line: &[u8]) -> Result<ParticipantHolding, FieldFault> {
+        match DayLine::cut(line)? {
+            DayLine::Holding {
+                participant,
+                code,
+                shares,
+            } => held(participant, code, shares),
+            _ => Err(out_of_group(line)),
+        }
     }
 }
 
-pub(crate) fn account_holding(line: &[u8]) -> Result<AccountHolding, FieldFault>
-    ensures { result ≡ line_of letter.AccountHolding account_holding_of line.now }
-{
-    match DayLine::cut(line)? {
-        DayLine::AccountHolding {
-            account,
-            code,
-            shares,
-        } => held(account, code, shares),
-        _ => Err(out_of_group(line)),
+impl HeldLine for Account {
+    ghost letter = { letter.AccountHolding };
+
+    ghost long = { Prim.search rules };
+
+    fn letter() -> Letter {
+        Letter::AccountHolding
+    }
+
+    fn holding(line: &[u8]) -> Result<AccountHolding, FieldFault> {
+        match DayLine::cut(line)? {
+            DayLine::AccountHolding {
+                account,
+                code,
+                shares,
+            } => held(account, code, shares),
+            _ => Err(out_of_group(line)),
+        }
     }
 }
 

@@ -5,7 +5,7 @@ use Rattle.tables.specs.Owners.{participant}
 use Rattle.fields.specs.Layout.{opening, day_letters}
 use Rattle.fields.specs.Lines.{day_letter_of, DayFieldsOf}
 use Rattle.dayfile.proofs.Held.{held_read}
-use Rattle.dayfile.proofs.rows.holding.Goals as goal
+use Rattle.dayfile.proofs.rows.ParticipantHeldLine.holding.Goals as goal
 
 pub returns-in-Holding : goal.returns-in-Holding
 returns-in-Holding c =

@@ -5,7 +5,7 @@ use Rattle.tables.specs.Owners.{account}
 use Rattle.fields.specs.Layout.{opening, day_letters}
 use Rattle.fields.specs.Lines.{day_letter_of, DayFieldsOf}
 use Rattle.dayfile.proofs.Held.{held_read}
-use Rattle.dayfile.proofs.rows.account_holding.Goals as goal
+use Rattle.dayfile.proofs.rows.AccountHeldLine.holding.Goals as goal
 
 pub returns-in-AccountHolding : goal.returns-in-AccountHolding
 returns-in-AccountHolding c =
