@@ -1,6 +1,6 @@
 use fields::rest::Rest;
 
-// What a D line says.
+// What a D line says: its numbers, which only `LoadingDay::open` judges by what they name.
 #[derive(Clone, Copy, PartialEq, Eq, Debug)]
 pub struct Opening {
     pub market: u64,

@@ -10,7 +10,8 @@ pub struct FieldFault {
     pub column: u64,
 }
 
-// A field's fault beside its line's letter, 0 where no line begins, and the line's number, from 1.
+// A field's fault beside its line's letter, and the line's number, from 1. The letter is the byte that is printed, 0 where
+// no line begins.
 #[derive(Clone, Copy, PartialEq, Eq, Debug)]
 pub struct LineFault {
     pub field: FieldFault,

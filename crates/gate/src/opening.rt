@@ -11,7 +11,8 @@ use rules::range::Quantity;
 use rules::refusal::Refusal;
 
 impl LoadingDay {
-    // The trading day of a market, a date and a quota; a number out of its range gives the loading day back.
+    // The trading day of a market, a date and a quota. It takes any numbers, the market's too; one that is out of its range
+    // gives the loading day back.
     pub fn open(
         self,
         market: u64,

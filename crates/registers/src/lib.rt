@@ -18,7 +18,7 @@ pub trait Register {
 
     ghost sound: { (x : Self) → Sound (meaning x) };
 
-    // The pool that an order sells from.
+    // The pool that an order sells from. The account is the number that the order's line has, 0 where it names none.
     fn find(&self, participant: u64, account: u64, code: u64) -> Result<usize, Refusal>
         ensures { result ≡ (meaning self.now).finds participant account code };
 

@@ -13,7 +13,8 @@ use rules::notice::NoticeBand;
 use rules::refusal::Refusal;
 use std::marker::Model;
 
-// A lent table: its first rows are its lines, and it knows whether these rise.
+// A lent table: its first rows are its lines, and it knows whether these rise. The rows are the caller's and stay where
+// they are, since no call on a table allocates.
 #[derive(Drop)]
 pub struct Table<'a, R: Row> {
     rows: &'a mut [R],
