@@ -102,16 +102,45 @@ fn holds_rising<R: Row<Key = Pair>>(rows: &[R], first: u64) -> bool
     is_of(row, first)
 }
 
-// The lines of a table, and whether they rise.
+// Whether rows that are known to rise, or not to, rise with one more row behind them.
+pub fn rises_with<R: Row>(rows: &[R], row: &R, rising: bool) -> bool
+    ensures { rising ≡ rise R.Key.cmp R.named rows.now → result ≡ rise R.Key.cmp R.named (rows.now ++ row.now ∷ []) }
+{
+    if !rising {
+        return false;
+    }
+    let Some(k) = row.key() else {
+        return false;
+    };
+    match rows.last() {
+        Some(last) => follows(&last.key(), &k),
+        None => true,
+    }
+}
+
+// The lines of a table, and whether they are known to rise.
 #[derive(Drop)]
 pub struct Lines<'a, R: Row> {
     pub rows: &'a [R],
     pub rising: bool,
-    ghost known: { rising ≡ rise R.Key.cmp R.named rows.now },
+    ghost known: { rising ≡ true → rise R.Key.cmp R.named rows.now ≡ true },
+}
+
+impl<'a, R: Row> Lines<'a, R> {
+    // These rows as lines: it asks whether they rise.
+    pub fn over(rows: &'a [R]) -> Lines<'a, R>
+        ensures rows { result.rows.now ≡ rows.now }
+        ensures exact { result.rising ≡ rise R.Key.cmp R.named rows.now }
+    {
+        Lines {
+            rows,
+            rising: rises(rows),
+        }
+    }
 }
 
 impl<R: Row> Lines<'_, R> {
-    // What `find` finds: by halving where the lines rise, else by a walk.
+    // What `find` finds: by halving where the lines are known to rise, else by a walk.
     pub fn place(&self, key: &R::Key) -> Option<usize>
         ensures is { result ≡ seek R.Key.cmp 0 (map R.named self.now.rows.now) key.now }
         ensures means { Found R.Key.cmp (map R.named self.now.rows.now) key.now result }
@@ -122,26 +151,11 @@ impl<R: Row> Lines<'_, R> {
             find(self.rows, key)
         }
     }
-
-    // Whether the lines rise with one more behind them.
-    pub fn rises_with(&self, row: &R) -> bool
-        ensures { result ≡ rise R.Key.cmp R.named (self.now.rows.now ++ row.now ∷ []) }
-    {
-        if !self.rising {
-            return false;
-        }
-        let Some(k) = row.key() else {
-            return false;
-        };
-        match self.rows.last() {
-            Some(last) => follows(&last.key(), &k),
-            None => true,
-        }
-    }
 }
 
 impl<R: Row<Key = Pair>> Lines<'_, R> {
-    // Whether some line has the first number in its key: by halving where the lines rise, else by a walk.
+    // Whether some line has the first number in its key: by halving where they are known to rise, else by a
+    // walk.
     pub fn has(&self, first: u64) -> bool
         ensures { result ≡ some_of first (map R.named self.now.rows.now) }
     {

@@ -8,7 +8,7 @@ ghost use Rattle.tables.specs.Rows.{may_sell, no_security, noticed, with_sellabl
 use super::owner::Owner;
 use super::rows::{AccountHolding, Designation, Holding, ParticipantHolding, Security};
 use lookup::key::{Pair, Row};
-use lookup::search::{Lines, rises};
+use lookup::search::{Lines, rises, rises_with};
 use rules::notice::NoticeBand;
 use rules::refusal::Refusal;
 use std::marker::Model;
@@ -103,7 +103,7 @@ impl<R: Row + Copy> Table<'_, R> {
         if end >= self.rows.len() {
             return Err(Refusal::Room);
         }
-        self.rising = self.lines().rises_with(&row);
+        self.rising = rises_with(&self.rows[..end], &row, self.rising);
         self.rows[end] = row;
         self.count = end + 1;
         Ok(())
