@@ -73,6 +73,13 @@ impl<R: Row> Table<'_, R> {
         self.lines().place(key)
     }
 
+    // Whether the lines rise with one more behind them.
+    fn rises_with(&self, row: &R) -> bool
+        ensures { result ≡ rise R.Key.cmp R.named (lines_of self.now ++ row.now ∷ []) }
+    {
+        rises_with(&self.rows[..self.count], row, self.rising)
+    }
+
     // Leaves no line; the rows stay as they are.
     pub fn clear(&mut self)
         ensures kept { self.new.rows ≡ self.old.rows }
@@ -103,7 +110,7 @@ impl<R: Row + Copy> Table<'_, R> {
         if end >= self.rows.len() {
             return Err(Refusal::Room);
         }
-        self.rising = rises_with(&self.rows[..end], &row, self.rising);
+        self.rising = self.rises_with(&row);
         self.rows[end] = row;
         self.count = end + 1;
         Ok(())
