@@ -17,11 +17,11 @@ use Rattle.dayfile.specs.declared.run.Run.{Run}
 use Rattle.dayfile.specs.Groups.{Kind}
 use Rattle.dayfile.specs.Kinds.{above, naming, named_next, designation_kind, most_named}
 use Rattle.dayfile.specs.Description.{named_by}
-use Rattle.dayfile.proofs.Written.{Steps, clash}
+use Rattle.dayfile.proofs.Written.{Steps}
 
 above_ok : {K : Type 0} (b : Bool) (k : K) (f : FieldFault) (t : Option K) → cond b (Ok (Some k)) (Err f) ≡ Ok t → (b ≡ true) × (t ≡ Some k)
 above_ok true k f t e = (refl, let q : t ≡ Some k = cc in q)
-above_ok false k f t e = clash (cc)
+above_ok false k f t e = cc
 
 -- a kind whose lines only have to rise
 module _ {R K : Type 0} (kind : Kind R (Option K)) (order : K → K → Ordering) (named : R → Option K) (key : R → K) (Good : R → Type 0) (has : (x : R) → Good x → named x ≡ Some (key x)) (is : (last : Option K) (x : R) → kind.step last x ≡ above order last (key x)) where
@@ -93,9 +93,9 @@ lower so_far r d h n c =
     fresh so_far d (c.1 d.account lt) (λ a l. c.1 a (omega arith)) c.2
 
 next_ok : (b c : Bool) (t u : Option Run) (f : FieldFault) (w : Option Run) → cond b (cond c (Ok t) (Err f)) (Ok u) ≡ Ok w → ((b ≡ true) → (c ≡ true) × (w ≡ t)) × ((b ≡ false) → w ≡ u)
-next_ok true true t u f w e = ((λ _. (refl, let q : w ≡ t = cc in q)), λ z. clash (cc))
-next_ok true false t u f w e = clash (cc)
-next_ok false c t u f w e = ((λ z. clash (cc)), λ _. let q : w ≡ u = cc in q)
+next_ok true true t u f w e = ((λ _. (refl, cc)), λ z. cc)
+next_ok true false t u f w e = cc
+next_ok false c t u f w e = ((λ z. cc), λ _. cc)
 
 -- what is counted after a line that may follow
 abbrev Stepped : (ℕ → ℕ) → Option Run → Designation → Option Run → Type 0
@@ -135,7 +135,7 @@ named_few (d ∷ ds) s so_far g c few st =
     )
   where
     counted_few : (t : Option Run) (f : ℕ → ℕ) {k : Pair} → last_of t ≡ Some k → Counted t f → (a : ℕ) → f a ≤ most_named
-    counted_few None f e c = clash (cc)
+    counted_few None f e c = cc
     counted_few (Some r) f e c = c.2
 
 -- a line that rises and is not one too many may follow

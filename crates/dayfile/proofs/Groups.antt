@@ -60,7 +60,7 @@ module _ {R S : Type 0} (kind : Kind R S) where
 
   pub by_ok : {A E : Type 0} {P : Type 0} (r : Result A E) → is_ok r ≡ true → ((x : A) → r ≡ Ok x → P) → P
   by_ok (Ok x) h f = f x refl
-  by_ok (Err e) h f = absurd (let y : ◌≡◌ {A = ℕ} 0 1 = cc in omega arith)
+  by_ok (Err e) h f = cc
 
   pub long_if_ok : ((line : List ℕ) (x : R) → kind.reads line ≡ Ok x → width_of kind.letter ≤ length line) → (line : List ℕ) → is_ok (kind.reads line) ≡ true → width_of kind.letter ≤ length line
   long_if_ok law line h = by_ok (kind.reads line) h (λ x e. law line x e)

@@ -35,7 +35,7 @@ use Rattle.dayfile.specs.Kinds.{security_kind, holding_kind, account_holding_kin
 use Rattle.dayfile.specs.Rows.{line_of}
 use Rattle.dayfile.specs.DayPart.{Plan, securities_at, holdings_at, account_holdings_at, designations_at, end_at, events_at, end_line, opening_of, agreed, ending_of, counts, plan, day_part}
 use Rattle.dayfile.specs.Description.{Description, security_numbers, holding_numbers, account_holding_numbers, designation_numbers, opening_numbers, end_numbers, counts_of, written, WellFormed, Fits, Describes, described, plan_of}
-use Rattle.dayfile.proofs.Written.{Grouped, grouped, accepted, rows_written, joined_wide, beside_ok, clash}
+use Rattle.dayfile.proofs.Written.{Grouped, grouped, accepted, rows_written, joined_wide, beside_ok}
 use Rattle.dayfile.proofs.Reading.{within_long, three, four, line_read, line_written, GoodSecurity, GoodHeld, GoodHolding, GoodAccountHolding, GoodDesignation, security_lined, holding_lined, account_holding_lined, designation_lined}
 use Rattle.dayfile.proofs.Following.{steps_rise, rise_steps, designations_step, designations_follow}
 
@@ -87,7 +87,7 @@ split input w n at e =
 
 agreed_true : (b : Bool) (f : FieldFault) (u : Unit {0}) → cond b (Ok tt) (Err f) ≡ Ok u → b ≡ true
 agreed_true true f u e = refl
-agreed_true false f u e = clash (cc)
+agreed_true false f u e = cc
 
 counts_agree : (said is column : ℕ) (u : Unit {0}) → agreed column said is ≡ Ok u → said ≡ is
 counts_agree said is column u e = eqb-true said is (agreed_true (eqb said is) (record { cause = refusal.Count; column = column }) u e)
@@ -228,7 +228,7 @@ module _ {R K : Type 0} (order : K → K → Ordering) (present : R → Bool) (k
 
   by_presence : (b : Bool) (x : R) (ks : List (Option K)) (last : Option K) → rise_from order last (cond b (Some (key x)) None ∷ ks) ≡ true → (b ≡ true) × (rise_from order (Some (key x)) ks ≡ true)
   by_presence true x ks last e = (refl, (and_parts (is_above order last (key x)) (rise_from order (Some (key x)) ks) e).1)
-  by_presence false x ks last e = clash (cc)
+  by_presence false x ks last e = cc
 
   all_present : (rows : List R) (last : Option K) → rise_from order last (map named rows) ≡ true → AllByRecursion (λ x. present x ≡ true) rows
   all_present [] last e = tt

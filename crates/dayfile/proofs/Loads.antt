@@ -22,11 +22,10 @@ use Rattle.dayfile.specs.Groups.{Kind, Lines, filled, oks, rows_of}
 use Rattle.dayfile.specs.Kinds.{security_kind, holding_kind, account_holding_kind, designation_kind}
 use Rattle.dayfile.specs.Loads.{Begins, Load, filled_by, Holds, loaded, room_of}
 use Rattle.dayfile.proofs.Law.{day_read, day_written}
-use Rattle.dayfile.proofs.Written.{clash}
 
 ok_one : {R E : Type 0} (r : Result R E) → is_ok r ≡ true → length (oks r) ≡ 1
 ok_one (Ok x) e = refl
-ok_one (Err f) e = clash (cc)
+ok_one (Err f) e = cc
 
 module _ {R S : Type 0} (kind : Kind R S) where
   -- each good line gives a row
@@ -45,11 +44,11 @@ fresh_holdings [] a = tt
 fresh_holdings (h ∷ hs) a = (a.0, fresh_holdings hs a.1)
 
 day_err : (r : Result Plan LineFault) (f : DayFault) (made : Plan) → day_at part.Day r ≡ Err f → r ≡ Ok made → ⊥
-day_err (Ok p) f made e q = clash (cc)
-day_err (Err g) f made e q = clash (cc)
+day_err (Ok p) f made e q = cc
+day_err (Err g) f made e q = cc
 
 same_tables : (r : Result Plan LineFault) (f : DayFault) (input : List ℕ) (before : Tables) → day_at part.Day r ≡ Err f → before ≡ loaded r input before
-same_tables (Ok p) f input before e = clash (cc)
+same_tables (Ok p) f input before e = cc
 same_tables (Err g) f input before e = refl
 
 -- a load that is refused

@@ -32,20 +32,20 @@ use Rattle.dayfile.specs.Groups.{starts}
 use Rattle.dayfile.specs.Rows.{line_of, misplaced, named_case, security_of, held_of, designation_of}
 use Rattle.dayfile.specs.Description.{security_numbers, held_numbers, holding_numbers, account_holding_numbers, designation_numbers}
 use Rattle.dayfile.specs.Kinds.{security_kind, holding_kind, account_holding_kind, designation_kind}
-use Rattle.dayfile.proofs.Written.{clash, Lined}
+use Rattle.dayfile.proofs.Written.{Lined}
 
 cond_ok : {T E : Type 0} (b : Bool) (r : Result T E) (f : E) (x : T) → cond b r (Err f) ≡ Ok x → (b ≡ true) × (r ≡ Ok x)
 cond_ok true r f x e = (refl, e)
-cond_ok false r f x e = clash (cc)
+cond_ok false r f x e = cc
 
 cond_err : {T E : Type 0} (b : Bool) (r : Result T E) (f : E) (x : T) → cond b (Err f) r ≡ Ok x → r ≡ Ok x
-cond_err true r f x e = clash (cc)
+cond_err true r f x e = cc
 cond_err false r f x e = e
 
 -- the letter that opens a line is that of its byte
 closed_letter : (line : List ℕ) (o : Option Letter) (l : Letter) → closed line o ≡ Ok l → o ≡ Some l
-closed_letter line None l e = clash (cc)
-closed_letter line (Some m) l e = by_then _ (λ _. Ok m) l e (λ u eu e2. ap Some (let q : m ≡ l = cc in q))
+closed_letter line None l e = cc
+closed_letter line (Some m) l e = by_then _ (λ _. Ok m) l e (λ u eu e2. ap Some (cc))
 
 byte_letter : (letters : List Letter) (line : List ℕ) (l : Letter) → opening letters line ≡ Ok l → letter_in letters (get_or line 0 0) ≡ Some l
 byte_letter letters line l e = closed_letter line (letter_in letters (get_or line 0 0)) l (cond_err (eqb (length line) 0) (closed line (letter_in letters (get_or line 0 0))) _ l e)
@@ -97,8 +97,8 @@ four (a ∷ ns) e = ap (λ ms. a ∷ ms) (three ns (omega arith))
 
 -- the cases that numbers name
 named_ok : {X : Type 0} (column : ℕ) (o : Option X) (x : X) → named_case column o ≡ Ok x → o ≡ Some x
-named_ok column (Some y) x e = ap Some (let q : y ≡ x = cc in q)
-named_ok column None x e = clash (cc)
+named_ok column (Some y) x e = ap Some (cc)
+named_ok column None x e = cc
 
 buying_back : (b : Buying) → buying_numbered (buying_rules b).number ≡ Some b
 buying_back Open = refl

@@ -9,20 +9,17 @@ use Rattle.fields.specs.Layout.{width_of}
 use Rattle.fields.proofs.Numbers.{by_then}
 use Rattle.dayfile.specs.Groups.{Kind, group, turn, following, starts, no_room, rows_of, oks}
 
-pub clash : {A : Type 0} → ◌≡◌ {A = ℕ} 0 1 → A
-clash e = absurd (omega arith)
-
 pub beside_ok : {T E F : Type 0} (r : Result T E) (p : E → F) (x : T) → beside_of r p ≡ Ok x → r ≡ Ok x
 beside_ok (Ok y) p x e = cc
-beside_ok (Err f) p x e = clash (cc)
+beside_ok (Err f) p x e = cc
 
 cond_not : {T E : Type 0} (b : Bool) (y x : T) (f : E) → cond b (Err f) (Ok y) ≡ Ok x → y ≡ x
-cond_not true y x f e = clash (cc)
+cond_not true y x f e = cc
 cond_not false y x f e = cc
 
 cond_some : {S E : Type 0} (b : Bool) (r : Result (Option S) E) (t : S) → cond b r (Ok None) ≡ Ok (Some t) → r ≡ Ok (Some t)
 cond_some true r t e = e
-cond_some false r t e = clash (cc)
+cond_some false r t e = cc
 
 -- a kind's lines are its good rows as they are written
 pub record Lined {R S : Type 0} (kind : Kind R S) (wrote : R → List ℕ) (Good : R → Type 0) : Type 0 where

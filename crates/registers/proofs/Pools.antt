@@ -18,7 +18,7 @@ use Rattle.registers.specs.Registers.{held_meaning, pool_at}
 
 -- the row at a place of rows one of which was replaced
 set_same : {X : Type 0} (rows : List X) (k : ℕ) (x y : X) → slice_get rows k ≡ Some y → slice_get (set rows k x) k ≡ Some x
-set_same [] k x y e = absurd (let z : ◌≡◌ {A = ℕ} 0 1 = cc in omega arith)
+set_same [] k x y e = cc
 set_same (r ∷ rows) zero x y e = refl
 set_same (r ∷ rows) (suc k) x y e = set_same rows k x y e
 
@@ -42,10 +42,10 @@ module _ {O : Type 0} (numbers : Quantity) (number : O → ℕ) where
 
   of_row : (h : Holding O) (b : Bool) (p : Pool) → present h ≡ b → cond b (Some (pool_of h.opening h.sellable)) None ≡ Some p → Line (Some h) p
   of_row h true p e f = record { row = h; is = refl; here = e; numbers_of = cc }
-  of_row h false p e f = absurd (let z : ◌≡◌ {A = ℕ} 0 1 = cc in omega arith)
+  of_row h false p e f = cc
 
   line_of : (line : Option (Holding O)) (p : Pool) → pool_at numbers number line ≡ Some p → Line line p
-  line_of None p e = absurd (let z : ◌≡◌ {A = ℕ} 0 1 = cc in omega arith)
+  line_of None p e = cc
   line_of (Some h) p e = of_row h (present h) p refl e
 
   -- no more of a pool may be sold than there was at the opening
