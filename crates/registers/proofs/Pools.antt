@@ -4,6 +4,8 @@ use Rattle.std.specs.Prelude.{IfSome}
 use mathlib.Core.Path.{fun_ext}
 use Rattle.std.specs.List.{slice_get}
 use Rattle.std.proofs.lemmas.Bool.{and_parts, and_from, le-leb, leb-true, cond-true, cases_eq, eq-eqb, ne_eqb}
+use Rattle.std.proofs.lemmas.Grind.{common_steps}
+use Rattle.std.proofs.lemmas.Option.{gets}
 use Rattle.std.proofs.lemmas.Bool.Decides.{nat_tests}
 use Rattle.rules.specs.declared.refusal.Refusal.{Refusal}
 use Rattle.rules.specs.declared.range.Quantity.{Quantity}
@@ -18,16 +20,10 @@ use Rattle.registers.specs.Registers.{held_meaning, pool_at}
 
 -- the row at a place of rows one of which was replaced
 set_same : {X : Type 0} (rows : List X) (k : ℕ) (x y : X) → slice_get rows k ≡ Some y → slice_get (set rows k x) k ≡ Some x
-set_same [] k x y e = cc
-set_same (r ∷ rows) zero x y e = refl
-set_same (r ∷ rows) (suc k) x y e = set_same rows k x y e
+set_same rows k x y e = grind (arith, common_steps, gets)
 
 set_other : {X : Type 0} (rows : List X) (k j : ℕ) (x : X) → (j ≡ k → ⊥) → slice_get (set rows k x) j ≡ slice_get rows j
-set_other [] k j x d = refl
-set_other (r ∷ rows) zero zero x d = absurd (d refl)
-set_other (r ∷ rows) zero (suc j) x d = refl
-set_other (r ∷ rows) (suc k) zero x d = refl
-set_other (r ∷ rows) (suc k) (suc j) x d = set_other rows k j x (λ e. d (ap suc e))
+set_other rows k j x d = grind (arith, common_steps, gets)
 
 module _ {O : Type 0} (numbers : Quantity) (number : O → ℕ) where
   abbrev present : Holding O → Bool
