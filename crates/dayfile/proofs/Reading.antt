@@ -39,8 +39,7 @@ cond_ok true r f x e = (refl, e)
 cond_ok false r f x e = cc
 
 cond_err : {T E : Type 0} (b : Bool) (r : Result T E) (f : E) (x : T) → cond b (Err f) r ≡ Ok x → r ≡ Ok x
-cond_err true r f x e = cc
-cond_err false r f x e = e
+cond_err b r f x e = grind arith
 
 -- the letter that opens a line is that of its byte
 closed_letter : (line : List ℕ) (o : Option Letter) (l : Letter) → closed line o ≡ Ok l → o ≡ Some l
@@ -78,9 +77,6 @@ module _ {X : Type 0} (l : Letter) (make : List ℕ → Result X FieldFault) (da
       ∙ ap (λ b. cond b (and_then (numbers_from 0 (letter_rules l).fields (written_line l ns ++ more)) make) (Err (misplaced (written_line l ns ++ more)))) (eq-eqb (letter_rules l).byte (letter_rules l).byte refl)
       ∙ ap (λ t. and_then t make) r.numbers ∙ e
 
-pub starts_written : (l : Letter) (ns more : List ℕ) → starts l (written_line l ns ++ more) ≡ true
-starts_written l ns more = grind (arith, nat_tests)
-
 pub two : (ns : List ℕ) → length ns ≡ 2 → ns ≡ get_or ns 0 0 ∷ (get_or ns 1 0 ∷ [])
 two [] e = absurd (omega arith)
 two (a ∷ []) e = absurd (omega arith)
@@ -97,26 +93,19 @@ four (a ∷ ns) e = ap (λ ms. a ∷ ms) (three ns (omega arith))
 
 -- the cases that numbers name
 named_ok : {X : Type 0} (column : ℕ) (o : Option X) (x : X) → named_case column o ≡ Ok x → o ≡ Some x
-named_ok column (Some y) x e = ap Some (cc)
-named_ok column None x e = cc
+named_ok column o x e = grind arith
 
 buying_back : (b : Buying) → buying_numbered (buying_rules b).number ≡ Some b
-buying_back Open = refl
-buying_back SellOnly = refl
-buying_back Suspended = refl
+buying_back b = grind arith
 
 band_back : (b : PriceBand) → band_of_percent (band_percent b) ≡ Some b
-band_back Five = refl
-band_back Ten = refl
+band_back b = grind arith
 
 buying_is : (n : ℕ) (b : Buying) → buying_numbered n ≡ Some b → (buying_rules b).number ≡ n
-buying_is n Open e = grind (arith, nat_tests)
-buying_is n SellOnly e = grind (arith, nat_tests)
-buying_is n Suspended e = grind (arith, nat_tests)
+buying_is n b e = grind (arith, nat_tests)
 
 band_is : (n : ℕ) (b : PriceBand) → band_of_percent n ≡ Some b → band_percent b ≡ n
-band_is n Five e = grind (arith, nat_tests)
-band_is n Ten e = grind (arith, nat_tests)
+band_is n b e = grind (arith, nat_tests)
 
 -- a row, the numbers of its line, and what makes it good
 pub record Said {X : Type 0} (l : Letter) (make : List ℕ → Result X FieldFault) (numbers : X → List ℕ) (Good : X → Type 0) : Type 0 where
@@ -140,13 +129,10 @@ abbrev pub GoodDesignation : Designation → Type 0
 GoodDesignation d = designation_present d ≡ true
 
 mode_in : (b : Buying) → in_range (range_of quantity.Mode) (buying_rules b).number ≡ true
-mode_in Open = refl
-mode_in SellOnly = refl
-mode_in Suspended = refl
+mode_in b = grind arith
 
 band_in : (b : PriceBand) → in_range (range_of quantity.Band) (band_percent b) ≡ true
-band_in Five = refl
-band_in Ten = refl
+band_in b = grind arith
 
 security_read : (ns : List ℕ) (x : Security) → Within (letter_rules letter.Security).fields ns → security_of ns ≡ Ok x → (ns ≡ security_numbers x) × GoodSecurity x
 security_read ns x w e =
@@ -223,7 +209,7 @@ module _ {X : Type 0} (l : Letter) (make : List ℕ → Result X FieldFault) (nu
   row_back x more g = line_written l make day (numbers x) more x (said.within x g) (said.back x g)
 
   row_opens : (x : X) (more : List ℕ) → Good x → starts l (written_line l (numbers x) ++ more) ≡ true
-  row_opens x more g = starts_written l (numbers x) more
+  row_opens x more g = grind (arith, nat_tests)
 
   row_wide : (x : X) → Good x → length (written_line l (numbers x)) ≡ width_of l
   row_wide x g = written_wide l (numbers x) (said.within x g)

@@ -10,16 +10,13 @@ use Rattle.fields.proofs.Numbers.{by_then}
 use Rattle.dayfile.specs.Groups.{Kind, group, turn, following, starts, no_room, rows_of, oks}
 
 pub beside_ok : {T E F : Type 0} (r : Result T E) (p : E → F) (x : T) → beside_of r p ≡ Ok x → r ≡ Ok x
-beside_ok (Ok y) p x e = cc
-beside_ok (Err f) p x e = cc
+beside_ok r p x e = grind arith
 
 cond_not : {T E : Type 0} (b : Bool) (y x : T) (f : E) → cond b (Err f) (Ok y) ≡ Ok x → y ≡ x
-cond_not true y x f e = cc
-cond_not false y x f e = cc
+cond_not b y x f e = grind arith
 
 cond_some : {S E : Type 0} (b : Bool) (r : Result (Option S) E) (t : S) → cond b r (Ok None) ≡ Ok (Some t) → r ≡ Ok (Some t)
-cond_some true r t e = e
-cond_some false r t e = cc
+cond_some b r t e = grind arith
 
 -- a kind's lines are its good rows as they are written
 pub record Lined {R S : Type 0} (kind : Kind R S) (wrote : R → List ℕ) (Good : R → Type 0) : Type 0 where
@@ -80,11 +77,8 @@ module _ {R S : Type 0} (kind : Kind R S) where
             form = ap (λ (y : ℕ). take y line) w ∙ take-add (width_of kind.letter) (width_of kind.letter * m) line ∙ ap (λ (u : List ℕ). u ++ take (width_of kind.letter * m) (drop (width_of kind.letter) line)) is.0 ∙ ap (λ (u : List ℕ). wrote x ++ u) g.form ∙ ap (flat_map wrote) (sym f);
           }
 
-      ends : (count : ℕ) (s : S) (line : List ℕ) (n : ℕ) → count ≡ n → Told count s line n
-      ends count s line n e = (0, omega arith, none s line)
-
       by_turn : (room count : ℕ) (s : S) (nr : ℕ) (line : List ℕ) (n : ℕ) (o : Option S) → turn kind false s nr line ≡ Ok o → ◌≡◌ {A = Result ℕ LineFault} (elim o [ None ↦ Ok count | Some t ↦ group kind room (count + 1) t (nr + 1) (drop (width_of kind.letter) line) ]) (Ok n) → ((t : S) → group kind room (count + 1) t (nr + 1) (drop (width_of kind.letter) line) ≡ Ok n → Told (count + 1) t (drop (width_of kind.letter) line) n) → Told count s line n
-      by_turn room count s nr line n None eo e2 more = let q : count ≡ n = cc in ends count s line n q
+      by_turn room count s nr line n None eo e2 more = let q : count ≡ n = cc in (0, omega arith, none s line)
       by_turn room count s nr line n (Some t) eo e2 more =
           let x = turn_ok false s nr line t eo in
           let m = more t e2 in
@@ -93,7 +87,7 @@ module _ {R S : Type 0} (kind : Kind R S) where
       told : (room count : ℕ) (s : S) (nr : ℕ) (line : List ℕ) (n : ℕ) → group kind room count s nr line ≡ Ok n → Told count s line n
       unfolding group
       told zero count s nr line n e =
-          by_then (turn kind true s nr line) (λ o. Ok count) n e (λ o eo e2. let q : count ≡ n = cc in ends count s line n q)
+          by_then (turn kind true s nr line) (λ o. Ok count) n e (λ o eo e2. let q : count ≡ n = cc in (0, omega arith, none s line))
       told (suc room) count s nr line n e =
           by_then (turn kind false s nr line) (λ o. elim o [ None ↦ Ok count | Some t ↦ group kind room (count + 1) t (nr + 1) (drop (width_of kind.letter) line) ]) n e
           (λ o eo e2. by_turn room count s nr line n o eo e2 (λ t et. told room (count + 1) t (nr + 1) (drop (width_of kind.letter) line) n et))
