@@ -16,12 +16,11 @@ module _ {R S : Type 0} (kind : Kind R S) where
       (λ (q : n ≡ room).
       let z : room - n ≡ 0 = omega arith in
       let u : turn kind true last nr line ≡ t = ap (λ b. turn kind b last nr line) (sym (eq-eqb n room q)) ∙ sym e in
-      ap (λ r. group kind r count last nr line) z ∙ ap (λ r. and_then r (λ o. Ok count)) u ∙ full)
+      rw (z, u) full)
       (λ (q : n ≡ room → ⊥).
       let z : room - n ≡ suc (room - n - 1) = omega arith in
-      let next = λ (k : S). group kind (room - n - 1) (count + 1) k (nr + 1) (drop (width_of kind.letter) line) in
       let u : turn kind false last nr line ≡ t = ap (λ b. turn kind b last nr line) (sym (ne_eqb n room q)) ∙ sym e in
-      ap (λ r. group kind r count last nr line) z ∙ ap (λ r. and_then r (λ o. elim o [ None ↦ Ok count | Some k ↦ next k ])) u ∙ some next)
+      rw (z, u) (some (λ k. group kind (room - n - 1) (count + 1) k (nr + 1) (drop (width_of kind.letter) line))))
       (cases_eq n room)
 
   -- the next line is refused
@@ -39,7 +38,7 @@ module _ {R S : Type 0} (kind : Kind R S) where
       let z : room - n ≡ suc (room - (n + 1)) = omega arith in
       let q : n ≡ room → ⊥ = λ w. omega arith in
       let t : turn kind false last nr line ≡ Ok (Some k) = ap (λ b. turn kind b last nr line) (sym (ne_eqb n room q)) ∙ sym e in
-      ap (λ r. group kind r count last nr line) z ∙ ap (λ r. and_then r (λ o. elim o [ None ↦ Ok count | Some k ↦ group kind (room - (n + 1)) (count + 1) k (nr + 1) (drop (width_of kind.letter) line) ])) t
+      rw (z, t) refl
 
   pub width_more : (n : ℕ) → width_of kind.letter * (n + 1) ≡ width_of kind.letter * n + width_of kind.letter
   width_more n = rw (add-one n) (mul-suc (width_of kind.letter) n)

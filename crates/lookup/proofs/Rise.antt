@@ -83,8 +83,7 @@ module _ {K : Type 0} (order : K → K → Ordering) (total : TotalOrder order) 
         ∙ all_before (map named rows) j up (omega (arith, l, length-map rows named)) (ap (is_before order key) (at j l) ∙ t) i (omega (arith, h))
 
     step : (s : ℕ) (o : Option K) (ks : List (Option K)) → is_before order key o ≡ true → seek order s (o ∷ ks) key ≡ seek order (s + 1) ks key
-    step s None ks b = refl
-    step s (Some k) ks b = ap (pick s (seek order (s + 1) ks key)) (less_is (order k key) b)
+    step s o ks b = grind arith
 
     skip : (s i : ℕ) (ks : List (Option K)) → i ≤ length ks → ((j : ℕ) → j < i → is_before order key (get_or ks j None) ≡ true) → seek order s ks key ≡ seek order (s + i) (drop i ks) key
     skip s zero ks l b = ap (λ n. seek order n ks key) (omega arith)
@@ -112,14 +111,10 @@ module _ {K : Type 0} (order : K → K → Ordering) (total : TotalOrder order) 
     at ks i l b = cut ks i (omega arith) b ∙ at_drop_more (λ r. seek order i r key) ks i None l
 
     hit : (o : Option K) (i : ℕ) (ks : List (Option K)) → is_at order key o ≡ true → seek order i (o ∷ ks) key ≡ Some i
-    hit None i ks e = cc
-    hit (Some k) i ks e = ap (pick i (seek order (i + 1) ks key)) (equal_is (order k key) e)
-
-    miss_by : (o : Ordering) (i : ℕ) (r : Option ℕ) → is_lt o ≡ false → is_eq o ≡ false → pick i r o ≡ None
-    miss_by o i r b e = grind arith
+    hit o i ks e = grind arith
 
     miss : (k : K) (i : ℕ) (ks : List (Option K)) → is_before order key (Some k) ≡ false → is_at order key (Some k) ≡ false → seek order i (Some k ∷ ks) key ≡ None
-    miss k i ks b e = miss_by (order k key) i (seek order (i + 1) ks key) b e
+    miss k i ks b e = grind arith
 
     pub found_at : (ks : List (Option K)) (i : ℕ) → i < length ks → Cut ks i → is_at order key (get_or ks i None) ≡ true → seek order 0 ks key ≡ Some i
     found_at ks i l b e = at ks i l b ∙ hit (get_or ks i None) i (drop (i + 1) ks) e
