@@ -11,12 +11,6 @@ use Rattle.lookup.specs.Lookup.{seek, is_before, is_at, is_above, rise_from, ris
 less_is : (o : Ordering) → is_lt o ≡ true → o ≡ Less
 less_is o e = grind arith
 
-equal_is : (o : Ordering) → is_eq o ≡ true → o ≡ Equal
-equal_is o e = grind arith
-
-abbrev pick : ℕ → Option ℕ → Ordering → Option ℕ
-pick i r o = elim o [ Less ↦ r | Equal ↦ Some i | Greater ↦ None ]
-
 module _ {K : Type 0} (order : K → K → Ordering) (total : TotalOrder order) where
   -- the rows after a key are above it
   over : (l : K) (ks : List (Option K)) → rise_from order (Some l) ks ≡ true → (j : ℕ) (b : K) → get_or ks j None ≡ Some b → order l b ≡ Less
@@ -122,8 +116,7 @@ module _ {K : Type 0} (order : K → K → Ordering) (total : TotalOrder order) 
     pub none_at : (ks : List (Option K)) (i : ℕ) → rise_from order None ks ≡ true → i < length ks → Cut ks i → is_before order key (get_or ks i None) ≡ false → is_at order key (get_or ks i None) ≡ false → seek order 0 ks key ≡ None
     none_at ks i h l b f e =
         let p = present_from None ks h i l in
-        at ks i l b ∙ ap (λ o. seek order i (o ∷ drop (i + 1) ks) key) p.1
-        ∙ miss p.0 i (drop (i + 1) ks) (sym (ap (is_before order key) p.1) ∙ f) (sym (ap (is_at order key) p.1) ∙ e)
+        at ks i l b ∙ rw p.1 (miss p.0 i (drop (i + 1) ks) (rw p.1 at f) (rw p.1 at e))
 
     pub none_past : (ks : List (Option K)) (i : ℕ) → i ≤ length ks → length ks ≤ i → Cut ks i → seek order 0 ks key ≡ None
     none_past ks i l m b = cut ks i l b ∙ at_drop_all (λ r. seek order i r key) ks i m
@@ -141,10 +134,7 @@ module _ {K : Type 0} (order : K → K → Ordering) where
   low_push : (last : Option K) (ks : List (Option K)) (o : Option K) → rise_from order last ks ≡ false → rise_from order last (ks ++ o ∷ []) ≡ false
   low_push last [] o h = cc
   low_push last (None ∷ ks) o h = refl
-  low_push last (Some k ∷ ks) o h = ⊎_elim
-      (λ (e : is_above order last k ≡ false). and_left (is_above order last k) _ e)
-      (λ (e : rise_from order (Some k) ks ≡ false). and_right (is_above order last k) _ (low_push (Some k) ks o e))
-      (and_cases (is_above order last k) (rise_from order (Some k) ks) h)
+  low_push last (Some k ∷ ks) o h = grind (arith, low_push (Some k) ks o)
 
   none_push : (last : Option K) (ks : List (Option K)) → rise_from order last (ks ++ None ∷ []) ≡ false
   none_push last [] = refl
