@@ -73,9 +73,7 @@ module _ {X : Type 0} (l : Letter) (make : List ℕ → Result X FieldFault) (da
   line_written ns more x w e =
       let r = written_is_read l ns more w in
       let o : opening day_letters (written_line l ns ++ more) ≡ Ok l = ap (λ p. opening (letters_of p) (written_line l ns ++ more)) (sym day) ∙ r.opens in
-      ap (λ t. and_then t (λ k. cond (eqb (letter_rules k).byte (letter_rules l).byte) (and_then (numbers_from 0 (letter_rules l).fields (written_line l ns ++ more)) make) (Err (misplaced (written_line l ns ++ more))))) o
-      ∙ ap (λ b. cond b (and_then (numbers_from 0 (letter_rules l).fields (written_line l ns ++ more)) make) (Err (misplaced (written_line l ns ++ more)))) (eq-eqb (letter_rules l).byte (letter_rules l).byte refl)
-      ∙ ap (λ t. and_then t make) r.numbers ∙ e
+      rw (o, eq-eqb (letter_rules l).byte (letter_rules l).byte refl, r.numbers) e
 
 pub two : (ns : List ℕ) → length ns ≡ 2 → ns ≡ get_or ns 0 0 ∷ (get_or ns 1 0 ∷ [])
 two [] e = absurd (omega arith)

@@ -100,18 +100,15 @@ module _ {R S : Type 0} (kind : Kind R S) where
           subst (Grouped s line) q t.2
 
       turn_written : (s : S) (nr : ℕ) (x : R) (more : List ℕ) (t : S) → Good x → kind.step s x ≡ Ok t → turn kind false s nr (wrote x ++ more) ≡ Ok (Some t)
-      turn_written s nr x more t g r =
-          let f : following kind s (wrote x ++ more) ≡ Ok t = ap (λ u. and_then u (λ y. kind.step s y)) (lined.back x more g) ∙ r in
-          ap (λ b. cond b (and_then (line_at (letter_rules kind.letter).byte nr (following kind s (wrote x ++ more))) (λ y. Ok (Some y))) (Ok None)) (lined.opens x more g)
-          ∙ ap (λ u. and_then (line_at (letter_rules kind.letter).byte nr u) (λ y. Ok (Some y))) f
+      turn_written s nr x more t g r = rw (lined.opens x more g, lined.back x more g, r) refl
 
       turn_over : (full : Bool) (s : S) (nr : ℕ) (rest : List ℕ) → starts kind.letter rest ≡ false → turn kind full s nr rest ≡ Ok None
-      turn_over full s nr rest e = ap (λ b. cond b (and_then (line_at (letter_rules kind.letter).byte nr (following kind s rest)) (λ y. cond full (Err (no_room kind.letter nr)) (Ok (Some y)))) (Ok None)) e
+      turn_over full s nr rest e = rw e refl
 
       accepts : (rows : List R) (room count : ℕ) (s : S) (nr : ℕ) (rest : List ℕ) → AllByRecursion Good rows → Steps s rows → length rows ≤ room → starts kind.letter rest ≡ false → group kind room count s nr (flat_map wrote rows ++ rest) ≡ Ok (count + length rows)
       unfolding group
-      accepts [] zero count s nr rest a r h o = ap (λ t. and_then t (λ w. Ok count)) (turn_over true s nr rest o) ∙ ap Ok (omega arith)
-      accepts [] (suc room) count s nr rest a r h o = ap (λ t. and_then t (λ w. elim w [ None ↦ Ok count | Some k ↦ group kind room (count + 1) k (nr + 1) (drop (width_of kind.letter) rest) ])) (turn_over false s nr rest o) ∙ ap Ok (omega arith)
+      accepts [] zero count s nr rest a r h o = rw (turn_over true s nr rest o) (ap Ok (omega arith))
+      accepts [] (suc room) count s nr rest a r h o = rw (turn_over false s nr rest o) (ap Ok (omega arith))
       accepts (x ∷ xs) zero count s nr rest a r h o = absurd (omega arith)
       accepts (x ∷ xs) (suc room) count s nr rest a r h o =
           let more = flat_map wrote xs ++ rest in
@@ -119,9 +116,7 @@ module _ {R S : Type 0} (kind : Kind R S) where
           let d : drop (width_of kind.letter) (wrote x ++ more) ≡ more = drop_at (wrote x) more (width_of kind.letter) (lined.wide x a.0) in
           let next = accepts xs room (count + 1) r.0 (nr + 1) rest a.1 r.2 (omega arith) o in
           ap (group kind (suc room) count s nr) (append_assoc (wrote x) (flat_map wrote xs) rest)
-          ∙ ap (λ w. and_then w (λ o. elim o [ None ↦ Ok count | Some k ↦ group kind room (count + 1) k (nr + 1) (drop (width_of kind.letter) (wrote x ++ more)) ])) t
-          ∙ ap (group kind room (count + 1) r.0 (nr + 1)) d
-          ∙ next ∙ ap Ok (omega arith)
+          ∙ rw (t, d) (next ∙ ap Ok (omega arith))
 
       -- rows as they are written are accepted
       pub accepted : (rows : List R) (room : ℕ) (s : S) (nr : ℕ) (rest : List ℕ) → AllByRecursion Good rows → Steps s rows → length rows ≤ room → starts kind.letter rest ≡ false → group kind room 0 s nr (flat_map wrote rows ++ rest) ≡ Ok (length rows)
@@ -135,9 +130,7 @@ module _ {R S : Type 0} (kind : Kind R S) where
           let d : drop (width_of kind.letter) (wrote x ++ more) ≡ more = drop_at (wrote x) more (width_of kind.letter) (lined.wide x a.0) in
           ap (rows_of kind (suc (length xs))) (append_assoc (wrote x) (flat_map wrote xs) rest)
           ∙ rows_first (length xs) (wrote x ++ more)
-          ∙ ap (λ u. oks u ++ rows_of kind (length xs) (drop (width_of kind.letter) (wrote x ++ more))) (lined.back x more a.0)
-          ∙ ap (λ (u : List ℕ). x ∷ rows_of kind (length xs) u) d
-          ∙ ap (λ us. x ∷ us) (rows_written xs rest a.1)
+          ∙ rw (lined.back x more a.0, d, rows_written xs rest a.1) refl
 
       pub joined_wide : (rows : List R) → AllByRecursion Good rows → length (flat_map wrote rows) ≡ width_of kind.letter * length rows
       joined_wide [] a = sym (mul-zero (width_of kind.letter))
