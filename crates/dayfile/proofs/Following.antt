@@ -7,7 +7,6 @@ use Rattle.rules.specs.declared.refusal.Refusal.TheVariants as refusal
 use Rattle.lookup.specs.declared.key.Pair.{Pair}
 use Rattle.tables.specs.declared.rows.Designation.{Designation}
 use Rattle.lookup.specs.Lookup.{is_above, rise_from}
-use Rattle.std.specs.Ordering.{is_lt}
 use Rattle.lookup.specs.Orders.{pair_order}
 use Rattle.tables.specs.Rows.{pair, designation_present, designation_key}
 use Rattle.fields.specs.declared.fault.FieldFault.{FieldFault}

@@ -1,12 +1,11 @@
 -- A day part is accepted exactly where the input begins with the written form of a description that is well formed and fits.
-use Rattle.std.proofs.Common.{◌≡◌, ℕ, zero, suc, ◌+◌, ◌*◌, ◌≤◌, Bool, true, false, cond, eqb, List, [], ◌∷◌, ◌++◌, map, length, get_or, take, drop, Some, None, Ok, Err, Option, Result, Ordering, sym, refl, ap, ◌∙◌, subst, append_assoc, arith}
+use Rattle.std.proofs.Common.{◌≡◌, ℕ, zero, suc, ◌+◌, ◌*◌, ◌≤◌, Bool, true, false, cond, eqb, List, [], ◌∷◌, ◌++◌, map, length, get_or, take, drop, Some, None, Ok, Option, Result, Ordering, sym, refl, ap, ◌∙◌, subst, append_assoc, arith}
 use Rattle.std.specs.List.{flat_map, AllByRecursion}
 use Rattle.std.proofs.lemmas.List.{take-append-drop, drop-drop, drop_at}
-use Rattle.std.proofs.lemmas.Bool.{eqb-true, eq-eqb, and_parts}
+use Rattle.std.proofs.lemmas.Bool.{and_parts}
 use Rattle.std.proofs.lemmas.Bool.Decides.{nat_tests}
 use Rattle.rules.specs.declared.letter.Letter.{Letter}
 use Rattle.rules.specs.declared.letter.Letter.TheVariants as letter
-use Rattle.rules.specs.declared.refusal.Refusal.TheVariants as refusal
 use Rattle.rules.specs.Letters.{letter_rules}
 use Rattle.tables.specs.declared.rows.Security.{Security}
 use Rattle.tables.specs.declared.rows.Holding.{Holding}
@@ -21,7 +20,6 @@ use Rattle.rules.specs.declared.range.Quantity.{Quantity}
 use Rattle.rules.specs.declared.range.Quantity.TheVariants as quantity
 use Rattle.lookup.proofs.Rise.{rising_means, words_mean}
 use Rattle.lookup.proofs.Holders.{pairs_total}
-use Rattle.fields.specs.declared.fault.FieldFault.{FieldFault}
 use Rattle.fields.specs.declared.fault.LineFault.{LineFault}
 use Rattle.fields.specs.Faults.{line_at}
 use Rattle.fields.specs.Layout.{width_of}

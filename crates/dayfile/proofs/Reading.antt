@@ -8,9 +8,7 @@ use Rattle.rules.specs.declared.letter.Part.TheVariants as part
 use Rattle.rules.specs.declared.range.Quantity.{Quantity}
 use Rattle.rules.specs.declared.range.Quantity.TheVariants as quantity
 use Rattle.rules.specs.declared.buying.Buying.{Buying}
-use Rattle.rules.specs.declared.buying.Buying.TheVariants.{Open, SellOnly, Suspended}
 use Rattle.rules.specs.declared.price.PriceBand.{PriceBand}
-use Rattle.rules.specs.declared.price.PriceBand.TheVariants.{Five, Ten}
 use Rattle.rules.specs.Buyings.{buying_rules, buying_numbered}
 use Rattle.rules.specs.Letters.{letter_rules}
 use Rattle.rules.specs.Prices.{band_percent, band_of_percent}

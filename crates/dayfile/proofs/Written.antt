@@ -4,7 +4,7 @@ use Rattle.std.specs.List.{flat_map, AllByRecursion}
 use Rattle.std.proofs.lemmas.List.{drop-drop, drop_at, length-append}
 use Rattle.rules.specs.Letters.{letter_rules}
 use Rattle.fields.specs.declared.fault.LineFault.{LineFault}
-use Rattle.fields.specs.Faults.{and_then, beside_of, line_at}
+use Rattle.fields.specs.Faults.{beside_of, line_at}
 use Rattle.fields.specs.Layout.{width_of}
 use Rattle.fields.proofs.Numbers.{by_then}
 use Rattle.dayfile.specs.Groups.{Kind, group, turn, following, starts, no_room, rows_of, oks}
