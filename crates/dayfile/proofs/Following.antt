@@ -7,7 +7,6 @@ use Rattle.rules.specs.declared.refusal.Refusal.TheVariants as refusal
 use Rattle.lookup.specs.declared.key.Pair.{Pair}
 use Rattle.tables.specs.declared.rows.Designation.{Designation}
 use Rattle.lookup.specs.Lookup.{is_above, rise_from}
-use Rattle.std.specs.Ordering.{is_lt}
 use Rattle.lookup.specs.Orders.{pair_order}
 use Rattle.tables.specs.Rows.{pair, designation_present, designation_key}
 use Rattle.fields.specs.declared.fault.FieldFault.{FieldFault}
@@ -17,11 +16,11 @@ use Rattle.dayfile.specs.declared.run.Run.{Run}
 use Rattle.dayfile.specs.Groups.{Kind}
 use Rattle.dayfile.specs.Kinds.{above, naming, named_next, designation_kind, most_named}
 use Rattle.dayfile.specs.Description.{named_by}
-use Rattle.dayfile.proofs.Written.{Steps, clash}
+use Rattle.dayfile.proofs.Written.{Steps}
 
 above_ok : {K : Type 0} (b : Bool) (k : K) (f : FieldFault) (t : Option K) → cond b (Ok (Some k)) (Err f) ≡ Ok t → (b ≡ true) × (t ≡ Some k)
 above_ok true k f t e = (refl, let q : t ≡ Some k = cc in q)
-above_ok false k f t e = clash (cc)
+above_ok false k f t e = cc
 
 -- a kind whose lines only have to rise
 module _ {R K : Type 0} (kind : Kind R (Option K)) (order : K → K → Ordering) (named : R → Option K) (key : R → K) (Good : R → Type 0) (has : (x : R) → Good x → named x ≡ Some (key x)) (is : (last : Option K) (x : R) → kind.step last x ≡ above order last (key x)) where
@@ -58,9 +57,6 @@ Counted (Some r) so_far = (so_far r.last.first ≡ r.named) × ((a : ℕ) → r.
 abbrev one : Designation → ℕ → ℕ
 one d a = cond (eqb d.account a) 1 0
 
-not_lower : (p q : Pair) → is_lt (pair_order p q) ≡ true → p.first ≤ q.first
-not_lower p q e = grind (arith, nat_tests)
-
 has_key : (d : Designation) → designation_present d ≡ true → designation_key d ≡ Some (key d)
 has_key d e = ap (λ b. cond b (Some (key d)) None) e
 
@@ -93,9 +89,9 @@ lower so_far r d h n c =
     fresh so_far d (c.1 d.account lt) (λ a l. c.1 a (omega arith)) c.2
 
 next_ok : (b c : Bool) (t u : Option Run) (f : FieldFault) (w : Option Run) → cond b (cond c (Ok t) (Err f)) (Ok u) ≡ Ok w → ((b ≡ true) → (c ≡ true) × (w ≡ t)) × ((b ≡ false) → w ≡ u)
-next_ok true true t u f w e = ((λ _. (refl, let q : w ≡ t = cc in q)), λ z. clash (cc))
-next_ok true false t u f w e = clash (cc)
-next_ok false c t u f w e = ((λ z. clash (cc)), λ _. let q : w ≡ u = cc in q)
+next_ok true true t u f w e = ((λ _. (refl, cc)), λ z. cc)
+next_ok true false t u f w e = cc
+next_ok false c t u f w e = ((λ z. cc), λ _. cc)
 
 -- what is counted after a line that may follow
 abbrev Stepped : (ℕ → ℕ) → Option Run → Designation → Option Run → Type 0
@@ -111,7 +107,7 @@ by_account so_far r d t up c e =
     (up, ap last_of m.1, subst (λ w. Counted w (λ a. so_far a + one d a)) (sym m.1) (further so_far r d q lt c)))
     (λ (q : r.last.first ≡ d.account → ⊥).
     let m = n.1 (ne_eqb r.last.first d.account q) in
-    (up, ap last_of m, subst (λ w. Counted w (λ a. so_far a + one d a)) (sym m) (lower so_far r d (not_lower r.last (key d) up) q c)))
+    (up, ap last_of m, subst (λ w. Counted w (λ a. so_far a + one d a)) (sym m) (lower so_far r d (grind (arith, nat_tests)) q c)))
     (cases_eq r.last.first d.account)
 
 stepped : (so_far : ℕ → ℕ) (s : Option Run) (d : Designation) (t : Option Run) → Counted s so_far → naming s (key d) ≡ Ok t → Stepped so_far s d t
@@ -122,20 +118,17 @@ stepped so_far (Some r) d t c e =
     by_then (above pair_order (Some r.last) (key d)) (λ _. named_next r (key d)) t e (λ u eu e2.
     by_account so_far r d t (above_ok (is_above pair_order (Some r.last) (key d)) (key d) (record { cause = refusal.Sequence; column = 1 }) u eu).0 c e2)
 
-regroup : (a b c : ℕ) → a + (b + c) ≡ (a + b) + c
-regroup a b c = omega arith
-
 pub named_few : (rows : List Designation) (s : Option Run) (so_far : ℕ → ℕ) → AllByRecursion (λ d. designation_present d ≡ true) rows → Counted s so_far → ((a : ℕ) → so_far a ≤ most_named) → Steps designation_kind s rows → (rise_from pair_order (last_of s) (map designation_key rows) ≡ true) × ((a : ℕ) → so_far a + named_by a rows ≤ most_named)
 named_few [] s so_far g c few st = (refl, λ a. omega (arith, few a))
 named_few (d ∷ ds) s so_far g c few st =
     let p = stepped so_far s d st.0 c st.1 in
     let rest = named_few ds st.0 (λ a. so_far a + one d a) g.1 p.2 (counted_few st.0 (λ a. so_far a + one d a) p.1 p.2) st.2 in (
       ap (λ o. rise_from pair_order (last_of s) (o ∷ map designation_key ds)) (has_key d g.0) ∙ rw p.0 (ap (λ o. rise_from pair_order o (map designation_key ds)) (sym p.1) ∙ rest.0),
-      λ a. omega (arith, rest.1 a, regroup (so_far a) (one d a) (named_by a ds)),
+      λ a. omega (arith, rest.1 a),
     )
   where
     counted_few : (t : Option Run) (f : ℕ → ℕ) {k : Pair} → last_of t ≡ Some k → Counted t f → (a : ℕ) → f a ≤ most_named
-    counted_few None f e c = clash (cc)
+    counted_few None f e c = cc
     counted_few (Some r) f e c = c.2
 
 -- a line that rises and is not one too many may follow
@@ -158,7 +151,7 @@ few_named (d ∷ ds) s so_far g c up few =
     let b = and_parts (is_above pair_order (last_of s) (key d)) (rise_from pair_order (Some (key d)) (map designation_key ds)) (sym (ap (λ o. rise_from pair_order (last_of s) (o ∷ map designation_key ds)) (has_key d g.0)) ∙ up) in
     let m = may_follow so_far s d c b.0 (omega (arith, few d.account, one_at d)) in
     let p = stepped so_far s d m.0 c m.1 in
-    (m.0, m.1, few_named ds m.0 (λ a. so_far a + one d a) g.1 p.2 (ap (λ o. rise_from pair_order o (map designation_key ds)) p.1 ∙ b.1) (λ a. omega (arith, few a, regroup (so_far a) (one d a) (named_by a ds))))
+    (m.0, m.1, few_named ds m.0 (λ a. so_far a + one d a) g.1 p.2 (ap (λ o. rise_from pair_order o (map designation_key ds)) p.1 ∙ b.1) (λ a. omega (arith, few a)))
 
 -- the whole group: it rises, and no account names too many
 pub designations_step : (rows : List Designation) → AllByRecursion (λ d. designation_present d ≡ true) rows → Steps designation_kind None rows → (rise_from pair_order None (map designation_key rows) ≡ true) × ((a : ℕ) → named_by a rows ≤ most_named)

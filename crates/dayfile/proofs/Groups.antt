@@ -1,5 +1,5 @@
 -- A group's turns.
-use Rattle.std.proofs.Common.{◌≡◌, ℕ, suc, ◌+◌, ◌-◌, ◌*◌, ◌<◌, ◌≤◌, true, false, eqb, List, [], ◌∷◌, ◌++◌, length, get_or, drop, set, is_ok, Some, None, Ok, Err, Result, sym, refl, ap, ◌∙◌, subst, ⊎_elim, append_assoc, mul-suc, add-one, arith}
+use Rattle.std.proofs.Common.{◌≡◌, ℕ, suc, ◌+◌, ◌-◌, ◌*◌, ◌<◌, ◌≤◌, true, false, eqb, List, [], ◌∷◌, ◌++◌, length, get_or, drop, set, is_ok, Some, None, Ok, Err, Option, Result, sym, refl, ap, ◌∙◌, subst, ⊎_elim, append_assoc, mul-suc, add-one, arith}
 use Rattle.std.proofs.lemmas.Bool.{eq-eqb, ne_eqb, cases_eq, cases_lt}
 use Rattle.std.proofs.lemmas.List.{drop-drop, length-drop, drop_more, set_at}
 use Rattle.fields.specs.declared.fault.LineFault.{LineFault}
@@ -8,35 +8,28 @@ use Rattle.fields.specs.Faults.{and_then}
 use Rattle.fields.specs.Layout.{width_of}
 
 module _ {R S : Type 0} (kind : Kind R S) where
-  -- the next line is refused
-  pub refused : (room n count : ℕ) (last : S) (nr : ℕ) (line : List ℕ) (f : LineFault) → n ≤ room → Err f ≡ turn kind (eqb n room) last nr line → group kind (room - n) count last nr line ≡ Err f
+  -- a turn that ends the group
+  ended : (room n count : ℕ) (last : S) (nr : ℕ) (line : List ℕ) (t : Result (Option S) LineFault) (out : Result ℕ LineFault) → n ≤ room → t ≡ turn kind (eqb n room) last nr line → and_then t (λ o. Ok count) ≡ out → ((next : S → Result ℕ LineFault) → and_then t (λ o. elim o [ None ↦ Ok count | Some k ↦ next k ]) ≡ out) → group kind (room - n) count last nr line ≡ out
   unfolding group
-  refused room n count last nr line f h e =
+  ended room n count last nr line t out h e full some =
       ⊎_elim
       (λ (q : n ≡ room).
       let z : room - n ≡ 0 = omega arith in
-      let t : turn kind true last nr line ≡ Err f = ap (λ b. turn kind b last nr line) (sym (eq-eqb n room q)) ∙ sym e in
-      ap (λ r. group kind r count last nr line) z ∙ ap (λ r. and_then r (λ o. Ok count)) t)
+      let u : turn kind true last nr line ≡ t = ap (λ b. turn kind b last nr line) (sym (eq-eqb n room q)) ∙ sym e in
+      rw (z, u) full)
       (λ (q : n ≡ room → ⊥).
       let z : room - n ≡ suc (room - n - 1) = omega arith in
-      let t : turn kind false last nr line ≡ Err f = ap (λ b. turn kind b last nr line) (sym (ne_eqb n room q)) ∙ sym e in
-      ap (λ r. group kind r count last nr line) z ∙ ap (λ r. and_then r (λ o. elim o [ None ↦ Ok count | Some k ↦ group kind (room - n - 1) (count + 1) k (nr + 1) (drop (width_of kind.letter) line) ])) t)
+      let u : turn kind false last nr line ≡ t = ap (λ b. turn kind b last nr line) (sym (ne_eqb n room q)) ∙ sym e in
+      rw (z, u) (some (λ k. group kind (room - n - 1) (count + 1) k (nr + 1) (drop (width_of kind.letter) line))))
       (cases_eq n room)
+
+  -- the next line is refused
+  pub refused : (room n count : ℕ) (last : S) (nr : ℕ) (line : List ℕ) (f : LineFault) → n ≤ room → Err f ≡ turn kind (eqb n room) last nr line → group kind (room - n) count last nr line ≡ Err f
+  refused room n count last nr line f h e = ended room n count last nr line (Err f) (Err f) h e refl (λ next. refl)
 
   -- the group is over
   pub over : (room n count : ℕ) (last : S) (nr : ℕ) (line : List ℕ) → n ≤ room → Ok None ≡ turn kind (eqb n room) last nr line → group kind (room - n) count last nr line ≡ Ok count
-  unfolding group
-  over room n count last nr line h e =
-      ⊎_elim
-      (λ (q : n ≡ room).
-      let z : room - n ≡ 0 = omega arith in
-      let t : turn kind true last nr line ≡ Ok None = ap (λ b. turn kind b last nr line) (sym (eq-eqb n room q)) ∙ sym e in
-      ap (λ r. group kind r count last nr line) z ∙ ap (λ r. and_then r (λ o. Ok count)) t)
-      (λ (q : n ≡ room → ⊥).
-      let z : room - n ≡ suc (room - n - 1) = omega arith in
-      let t : turn kind false last nr line ≡ Ok None = ap (λ b. turn kind b last nr line) (sym (ne_eqb n room q)) ∙ sym e in
-      ap (λ r. group kind r count last nr line) z ∙ ap (λ r. and_then r (λ o. elim o [ None ↦ Ok count | Some k ↦ group kind (room - n - 1) (count + 1) k (nr + 1) (drop (width_of kind.letter) line) ])) t)
-      (cases_eq n room)
+  over room n count last nr line h e = ended room n count last nr line (Ok None) (Ok count) h e refl (λ next. refl)
 
   -- one line more, which a full table has not
   pub more : (room n count : ℕ) (last : S) (nr : ℕ) (line : List ℕ) (k : S) → n < room → Ok (Some k) ≡ turn kind (eqb n room) last nr line → group kind (room - n) count last nr line ≡ group kind (room - (n + 1)) (count + 1) k (nr + 1) (drop (width_of kind.letter) line)
@@ -45,7 +38,7 @@ module _ {R S : Type 0} (kind : Kind R S) where
       let z : room - n ≡ suc (room - (n + 1)) = omega arith in
       let q : n ≡ room → ⊥ = λ w. omega arith in
       let t : turn kind false last nr line ≡ Ok (Some k) = ap (λ b. turn kind b last nr line) (sym (ne_eqb n room q)) ∙ sym e in
-      ap (λ r. group kind r count last nr line) z ∙ ap (λ r. and_then r (λ o. elim o [ None ↦ Ok count | Some k ↦ group kind (room - (n + 1)) (count + 1) k (nr + 1) (drop (width_of kind.letter) line) ])) t
+      rw (z, t) refl
 
   pub width_more : (n : ℕ) → width_of kind.letter * (n + 1) ≡ width_of kind.letter * n + width_of kind.letter
   width_more n = rw (add-one n) (mul-suc (width_of kind.letter) n)
@@ -60,7 +53,7 @@ module _ {R S : Type 0} (kind : Kind R S) where
 
   pub by_ok : {A E : Type 0} {P : Type 0} (r : Result A E) → is_ok r ≡ true → ((x : A) → r ≡ Ok x → P) → P
   by_ok (Ok x) h f = f x refl
-  by_ok (Err e) h f = absurd (let y : ◌≡◌ {A = ℕ} 0 1 = cc in omega arith)
+  by_ok (Err e) h f = cc
 
   pub long_if_ok : ((line : List ℕ) (x : R) → kind.reads line ≡ Ok x → width_of kind.letter ≤ length line) → (line : List ℕ) → is_ok (kind.reads line) ≡ true → width_of kind.letter ≤ length line
   long_if_ok law line h = by_ok (kind.reads line) h (λ x e. law line x e)

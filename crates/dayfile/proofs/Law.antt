@@ -1,12 +1,11 @@
 -- A day part is accepted exactly where the input begins with the written form of a description that is well formed and fits.
-use Rattle.std.proofs.Common.{◌≡◌, ℕ, zero, suc, ◌+◌, ◌*◌, ◌≤◌, Bool, true, false, cond, eqb, List, [], ◌∷◌, ◌++◌, map, length, get_or, take, drop, Some, None, Ok, Err, Option, Result, Ordering, sym, refl, ap, ◌∙◌, subst, append_assoc, arith}
+use Rattle.std.proofs.Common.{◌≡◌, ℕ, zero, suc, ◌+◌, ◌*◌, ◌≤◌, Bool, true, false, cond, eqb, List, [], ◌∷◌, ◌++◌, map, length, get_or, take, drop, Some, None, Ok, Option, Result, Ordering, sym, refl, ap, ◌∙◌, subst, append_assoc, arith}
 use Rattle.std.specs.List.{flat_map, AllByRecursion}
 use Rattle.std.proofs.lemmas.List.{take-append-drop, drop-drop, drop_at}
-use Rattle.std.proofs.lemmas.Bool.{eqb-true, eq-eqb, and_parts}
+use Rattle.std.proofs.lemmas.Bool.{and_parts}
 use Rattle.std.proofs.lemmas.Bool.Decides.{nat_tests}
 use Rattle.rules.specs.declared.letter.Letter.{Letter}
 use Rattle.rules.specs.declared.letter.Letter.TheVariants as letter
-use Rattle.rules.specs.declared.refusal.Refusal.TheVariants as refusal
 use Rattle.rules.specs.Letters.{letter_rules}
 use Rattle.tables.specs.declared.rows.Security.{Security}
 use Rattle.tables.specs.declared.rows.Holding.{Holding}
@@ -21,7 +20,6 @@ use Rattle.rules.specs.declared.range.Quantity.{Quantity}
 use Rattle.rules.specs.declared.range.Quantity.TheVariants as quantity
 use Rattle.lookup.proofs.Rise.{rising_means, words_mean}
 use Rattle.lookup.proofs.Holders.{pairs_total}
-use Rattle.fields.specs.declared.fault.FieldFault.{FieldFault}
 use Rattle.fields.specs.declared.fault.LineFault.{LineFault}
 use Rattle.fields.specs.Faults.{line_at}
 use Rattle.fields.specs.Layout.{width_of}
@@ -35,7 +33,7 @@ use Rattle.dayfile.specs.Kinds.{security_kind, holding_kind, account_holding_kin
 use Rattle.dayfile.specs.Rows.{line_of}
 use Rattle.dayfile.specs.DayPart.{Plan, securities_at, holdings_at, account_holdings_at, designations_at, end_at, events_at, end_line, opening_of, agreed, ending_of, counts, plan, day_part}
 use Rattle.dayfile.specs.Description.{Description, security_numbers, holding_numbers, account_holding_numbers, designation_numbers, opening_numbers, end_numbers, counts_of, written, WellFormed, Fits, Describes, described, plan_of}
-use Rattle.dayfile.proofs.Written.{Grouped, grouped, accepted, rows_written, joined_wide, beside_ok, clash}
+use Rattle.dayfile.proofs.Written.{Grouped, grouped, accepted, rows_written, joined_wide, beside_ok}
 use Rattle.dayfile.proofs.Reading.{within_long, three, four, line_read, line_written, GoodSecurity, GoodHeld, GoodHolding, GoodAccountHolding, GoodDesignation, security_lined, holding_lined, account_holding_lined, designation_lined}
 use Rattle.dayfile.proofs.Following.{steps_rise, rise_steps, designations_step, designations_follow}
 
@@ -85,12 +83,8 @@ split input w n at e =
     ∙ ap (λ (t : List ℕ). t ++ drop n (drop at input)) e
     ∙ ap (λ (t : List ℕ). w ++ t) (drop-drop n at input)
 
-agreed_true : (b : Bool) (f : FieldFault) (u : Unit {0}) → cond b (Ok tt) (Err f) ≡ Ok u → b ≡ true
-agreed_true true f u e = refl
-agreed_true false f u e = clash (cc)
-
 counts_agree : (said is column : ℕ) (u : Unit {0}) → agreed column said is ≡ Ok u → said ≡ is
-counts_agree said is column u e = eqb-true said is (agreed_true (eqb said is) (record { cause = refusal.Count; column = column }) u e)
+counts_agree said is column u e = grind (arith, nat_tests)
 
 ending_is : (c : Counts) (ns : List ℕ) (u : Unit {0}) → length ns ≡ 4 → ending_of c ns ≡ Ok u → ns ≡ end_numbers c
 ending_is c ns u l e =
@@ -103,24 +97,8 @@ ending_is c ns u l e =
     let f = counts_agree (get_or ns 3 0) c.designations 50 u r2 in
     four ns l ∙ (let q : get_or ns 0 0 ∷ (get_or ns 1 0 ∷ (get_or ns 2 0 ∷ (get_or ns 3 0 ∷ []))) ≡ end_numbers c = cc in q))))
 
--- what an accepted group of each kind says
-securities_read : (room nr n : ℕ) (line : List ℕ) → group security_kind room 0 None nr line ≡ Ok n → Grouped security_kind security_line GoodSecurity None line n
-securities_read room nr n line e = grouped security_kind security_line GoodSecurity security_lined room None nr line n e
-
-holdings_read : (room nr n : ℕ) (line : List ℕ) → group holding_kind room 0 None nr line ≡ Ok n → Grouped holding_kind holding_line GoodHolding None line n
-holdings_read room nr n line e = grouped holding_kind holding_line GoodHolding holding_lined room None nr line n e
-
-account_holdings_read : (room nr n : ℕ) (line : List ℕ) → group account_holding_kind room 0 None nr line ≡ Ok n → Grouped account_holding_kind account_holding_line GoodAccountHolding None line n
-account_holdings_read room nr n line e = grouped account_holding_kind account_holding_line GoodAccountHolding account_holding_lined room None nr line n e
-
-designations_read : (room nr n : ℕ) (line : List ℕ) → group designation_kind room 0 None nr line ≡ Ok n → Grouped designation_kind designation_line GoodDesignation None line n
-designations_read room nr n line e = grouped designation_kind designation_line GoodDesignation designation_lined room None nr line n e
-
 six : (a b c d e f t : List ℕ) → (a ++ (b ++ (c ++ (d ++ (e ++ f))))) ++ t ≡ a ++ (b ++ (c ++ (d ++ (e ++ (f ++ t)))))
 six a b c d e f t = simp append_assoc
-
-counts_same : (s p a g s' p' a' g' : ℕ) → s ≡ s' → p ≡ p' → a ≡ a' → g ≡ g' → counts s p a g ≡ counts s' p' a' g'
-counts_same s p a g s' p' a' g' es ep ea eg = cc
 
 -- the pieces of an accepted day part
 module _ (input : List ℕ) (room : Counts) (o : Opening) (c : Counts)
@@ -135,7 +113,7 @@ module _ (input : List ℕ) (room : Counts) (o : Opening) (c : Counts)
   day = described input (plan o c)
 
   same_counts : counts_of day ≡ c
-  same_counts = counts_same _ _ _ _ c.securities c.holdings c.account_holdings c.designations ss.long ps.long hs.long gs.long
+  same_counts = rw (ss.long, ps.long, hs.long, gs.long) refl
 
   form : input ≡ written day ++ drop (events_at c) input
   form =
@@ -204,10 +182,10 @@ day_read input room made e =
     let dn = opening_is d.0 o (within_long (letter_rules letter.Day).fields d.0 d.1.within) d.2 in
     let z = line_read letter.End (ending_of c) refl (drop (end_at c) input) u (beside_ok (line_of letter.End (ending_of c) (drop (end_at c) input)) _ u eu) in
     let zn = ending_is c z.0 u (within_long (letter_rules letter.End).fields z.0 z.1.within) z.2 in
-    let ss = securities_read room.securities 2 s (drop securities_at input) es in
-    let ps = holdings_read room.holdings (2 + s) p (drop (holdings_at c) input) ep in
-    let hs = account_holdings_read room.account_holdings (2 + s + p) a (drop (account_holdings_at c) input) ea in
-    let gs = designations_read room.designations (2 + s + p + a) g (drop (designations_at c) input) eg in
+    let ss = grouped security_kind security_line GoodSecurity security_lined room.securities None 2 (drop securities_at input) s es in
+    let ps = grouped holding_kind holding_line GoodHolding holding_lined room.holdings None (2 + s) (drop (holdings_at c) input) p ep in
+    let hs = grouped account_holding_kind account_holding_line GoodAccountHolding account_holding_lined room.account_holdings None (2 + s + p) (drop (account_holdings_at c) input) a ea in
+    let gs = grouped designation_kind designation_line GoodDesignation designation_lined room.designations None (2 + s + p + a) (drop (designations_at c) input) g eg in
     let fit : Fits room (described input (plan o c)) = record {
       securities = omega (arith, ss.long, group_few security_kind room.securities 0 2 s None (drop securities_at input) es);
       holdings = omega (arith, ps.long, group_few holding_kind room.holdings 0 (2 + s) p None (drop (holdings_at c) input) ep);
@@ -228,7 +206,7 @@ module _ {R K : Type 0} (order : K → K → Ordering) (present : R → Bool) (k
 
   by_presence : (b : Bool) (x : R) (ks : List (Option K)) (last : Option K) → rise_from order last (cond b (Some (key x)) None ∷ ks) ≡ true → (b ≡ true) × (rise_from order (Some (key x)) ks ≡ true)
   by_presence true x ks last e = (refl, (and_parts (is_above order last (key x)) (rise_from order (Some (key x)) ks) e).1)
-  by_presence false x ks last e = clash (cc)
+  by_presence false x ks last e = cc
 
   all_present : (rows : List R) (last : Option K) → rise_from order last (map named rows) ≡ true → AllByRecursion (λ x. present x ≡ true) rows
   all_present [] last e = tt
@@ -247,7 +225,7 @@ skips l m numbers [] more e s = s
 skips l m numbers (x ∷ xs) more e s = not_first l (letter_rules m).byte _ e
 
 ending_agrees : (c : Counts) → ending_of c (end_numbers c) ≡ Ok tt
-ending_agrees c = rw (eq-eqb c.securities c.securities refl, eq-eqb c.holdings c.holdings refl, eq-eqb c.account_holdings c.account_holdings refl, eq-eqb c.designations c.designations refl) refl
+ending_agrees c = grind (arith, nat_tests)
 
 description_same : (d : Description) {ss : List Security} {hs : List (Holding Participant)} {accounts : List (Holding Account)} {gs : List Designation} → ss ≡ d.securities → hs ≡ d.holdings → accounts ≡ d.account_holdings → gs ≡ d.designations → record { market = d.market; date = d.date; quota = d.quota; securities = ss; holdings = hs; account_holdings = accounts; designations = gs } ≡ d
 description_same d a b c e = rw (a, b, c, e) refl

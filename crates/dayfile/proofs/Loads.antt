@@ -22,11 +22,9 @@ use Rattle.dayfile.specs.Groups.{Kind, Lines, filled, oks, rows_of}
 use Rattle.dayfile.specs.Kinds.{security_kind, holding_kind, account_holding_kind, designation_kind}
 use Rattle.dayfile.specs.Loads.{Begins, Load, filled_by, Holds, loaded, room_of}
 use Rattle.dayfile.proofs.Law.{day_read, day_written}
-use Rattle.dayfile.proofs.Written.{clash}
 
 ok_one : {R E : Type 0} (r : Result R E) → is_ok r ≡ true → length (oks r) ≡ 1
-ok_one (Ok x) e = refl
-ok_one (Err f) e = clash (cc)
+ok_one r e = grind arith
 
 module _ {R S : Type 0} (kind : Kind R S) where
   -- each good line gives a row
@@ -45,11 +43,10 @@ fresh_holdings [] a = tt
 fresh_holdings (h ∷ hs) a = (a.0, fresh_holdings hs a.1)
 
 day_err : (r : Result Plan LineFault) (f : DayFault) (made : Plan) → day_at part.Day r ≡ Err f → r ≡ Ok made → ⊥
-day_err (Ok p) f made e q = clash (cc)
-day_err (Err g) f made e q = clash (cc)
+day_err r f made e q = grind arith
 
 same_tables : (r : Result Plan LineFault) (f : DayFault) (input : List ℕ) (before : Tables) → day_at part.Day r ≡ Err f → before ≡ loaded r input before
-same_tables (Ok p) f input before e = clash (cc)
+same_tables (Ok p) f input before e = cc
 same_tables (Err g) f input before e = refl
 
 -- a load that is refused
@@ -77,9 +74,6 @@ holds_described input before made p is =
       accounts_fresh = subst (λ hs. Fresh (account_meaning hs (lines_of (filled_by made input before).designations))) (sym a) (fresh_lines quantity.Account (λ a. a.0) (designated_finds (lines_of (filled_by made input before).designations)) (described input made).account_holdings (fresh_holdings (described input made).account_holdings is.well_formed.account_holdings_fresh));
     }
 
-same_plan : (r : Result Plan LineFault) (a b : Plan) → r ≡ Ok a → r ≡ Ok b → a ≡ b
-same_plan r a b p q = cc
-
 -- a load that is accepted
 pub taken : (input : List ℕ) (before after : Tables) (l : Loaded) (made : Plan) → day_part input (room_of before) ≡ Ok made → Planned input (room_of before) made → Begins input made l.day.figures l.events.bytes.now l.events.line → after ≡ filled_by made input before → Load input before (Ok l) after
 taken input before after l made is p b f =
@@ -91,6 +85,7 @@ taken input before after l made is p b f =
       described = (described input made, d, h);
       accepts = λ other o.
           let w = day_written input (room_of before) other o in
-          let same : described input made ≡ other = ap (described input) (same_plan (day_part input (room_of before)) made (plan_of other) is w.0) ∙ w.1 in
+          let q : made ≡ plan_of other = cc (is, w.0) in
+          let same : described input made ≡ other = ap (described input) q ∙ w.1 in
           (refl, subst (λ x. Holds x after) same h);
     }

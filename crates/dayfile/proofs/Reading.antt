@@ -8,9 +8,7 @@ use Rattle.rules.specs.declared.letter.Part.TheVariants as part
 use Rattle.rules.specs.declared.range.Quantity.{Quantity}
 use Rattle.rules.specs.declared.range.Quantity.TheVariants as quantity
 use Rattle.rules.specs.declared.buying.Buying.{Buying}
-use Rattle.rules.specs.declared.buying.Buying.TheVariants.{Open, SellOnly, Suspended}
 use Rattle.rules.specs.declared.price.PriceBand.{PriceBand}
-use Rattle.rules.specs.declared.price.PriceBand.TheVariants.{Five, Ten}
 use Rattle.rules.specs.Buyings.{buying_rules, buying_numbered}
 use Rattle.rules.specs.Letters.{letter_rules}
 use Rattle.rules.specs.Prices.{band_percent, band_of_percent}
@@ -32,20 +30,19 @@ use Rattle.dayfile.specs.Groups.{starts}
 use Rattle.dayfile.specs.Rows.{line_of, misplaced, named_case, security_of, held_of, designation_of}
 use Rattle.dayfile.specs.Description.{security_numbers, held_numbers, holding_numbers, account_holding_numbers, designation_numbers}
 use Rattle.dayfile.specs.Kinds.{security_kind, holding_kind, account_holding_kind, designation_kind}
-use Rattle.dayfile.proofs.Written.{clash, Lined}
+use Rattle.dayfile.proofs.Written.{Lined}
 
 cond_ok : {T E : Type 0} (b : Bool) (r : Result T E) (f : E) (x : T) → cond b r (Err f) ≡ Ok x → (b ≡ true) × (r ≡ Ok x)
 cond_ok true r f x e = (refl, e)
-cond_ok false r f x e = clash (cc)
+cond_ok false r f x e = cc
 
 cond_err : {T E : Type 0} (b : Bool) (r : Result T E) (f : E) (x : T) → cond b (Err f) r ≡ Ok x → r ≡ Ok x
-cond_err true r f x e = clash (cc)
-cond_err false r f x e = e
+cond_err b r f x e = grind arith
 
 -- the letter that opens a line is that of its byte
 closed_letter : (line : List ℕ) (o : Option Letter) (l : Letter) → closed line o ≡ Ok l → o ≡ Some l
-closed_letter line None l e = clash (cc)
-closed_letter line (Some m) l e = by_then _ (λ _. Ok m) l e (λ u eu e2. ap Some (let q : m ≡ l = cc in q))
+closed_letter line None l e = cc
+closed_letter line (Some m) l e = by_then _ (λ _. Ok m) l e (λ u eu e2. ap Some (cc))
 
 byte_letter : (letters : List Letter) (line : List ℕ) (l : Letter) → opening letters line ≡ Ok l → letter_in letters (get_or line 0 0) ≡ Some l
 byte_letter letters line l e = closed_letter line (letter_in letters (get_or line 0 0)) l (cond_err (eqb (length line) 0) (closed line (letter_in letters (get_or line 0 0))) _ l e)
@@ -74,12 +71,7 @@ module _ {X : Type 0} (l : Letter) (make : List ℕ → Result X FieldFault) (da
   line_written ns more x w e =
       let r = written_is_read l ns more w in
       let o : opening day_letters (written_line l ns ++ more) ≡ Ok l = ap (λ p. opening (letters_of p) (written_line l ns ++ more)) (sym day) ∙ r.opens in
-      ap (λ t. and_then t (λ k. cond (eqb (letter_rules k).byte (letter_rules l).byte) (and_then (numbers_from 0 (letter_rules l).fields (written_line l ns ++ more)) make) (Err (misplaced (written_line l ns ++ more))))) o
-      ∙ ap (λ b. cond b (and_then (numbers_from 0 (letter_rules l).fields (written_line l ns ++ more)) make) (Err (misplaced (written_line l ns ++ more)))) (eq-eqb (letter_rules l).byte (letter_rules l).byte refl)
-      ∙ ap (λ t. and_then t make) r.numbers ∙ e
-
-pub starts_written : (l : Letter) (ns more : List ℕ) → starts l (written_line l ns ++ more) ≡ true
-starts_written l ns more = grind (arith, nat_tests)
+      rw (o, eq-eqb (letter_rules l).byte (letter_rules l).byte refl, r.numbers) e
 
 pub two : (ns : List ℕ) → length ns ≡ 2 → ns ≡ get_or ns 0 0 ∷ (get_or ns 1 0 ∷ [])
 two [] e = absurd (omega arith)
@@ -97,26 +89,19 @@ four (a ∷ ns) e = ap (λ ms. a ∷ ms) (three ns (omega arith))
 
 -- the cases that numbers name
 named_ok : {X : Type 0} (column : ℕ) (o : Option X) (x : X) → named_case column o ≡ Ok x → o ≡ Some x
-named_ok column (Some y) x e = ap Some (let q : y ≡ x = cc in q)
-named_ok column None x e = clash (cc)
+named_ok column o x e = grind arith
 
 buying_back : (b : Buying) → buying_numbered (buying_rules b).number ≡ Some b
-buying_back Open = refl
-buying_back SellOnly = refl
-buying_back Suspended = refl
+buying_back b = grind arith
 
 band_back : (b : PriceBand) → band_of_percent (band_percent b) ≡ Some b
-band_back Five = refl
-band_back Ten = refl
+band_back b = grind arith
 
 buying_is : (n : ℕ) (b : Buying) → buying_numbered n ≡ Some b → (buying_rules b).number ≡ n
-buying_is n Open e = grind (arith, nat_tests)
-buying_is n SellOnly e = grind (arith, nat_tests)
-buying_is n Suspended e = grind (arith, nat_tests)
+buying_is n b e = grind (arith, nat_tests)
 
 band_is : (n : ℕ) (b : PriceBand) → band_of_percent n ≡ Some b → band_percent b ≡ n
-band_is n Five e = grind (arith, nat_tests)
-band_is n Ten e = grind (arith, nat_tests)
+band_is n b e = grind (arith, nat_tests)
 
 -- a row, the numbers of its line, and what makes it good
 pub record Said {X : Type 0} (l : Letter) (make : List ℕ → Result X FieldFault) (numbers : X → List ℕ) (Good : X → Type 0) : Type 0 where
@@ -140,13 +125,10 @@ abbrev pub GoodDesignation : Designation → Type 0
 GoodDesignation d = designation_present d ≡ true
 
 mode_in : (b : Buying) → in_range (range_of quantity.Mode) (buying_rules b).number ≡ true
-mode_in Open = refl
-mode_in SellOnly = refl
-mode_in Suspended = refl
+mode_in b = grind arith
 
 band_in : (b : PriceBand) → in_range (range_of quantity.Band) (band_percent b) ≡ true
-band_in Five = refl
-band_in Ten = refl
+band_in b = grind arith
 
 security_read : (ns : List ℕ) (x : Security) → Within (letter_rules letter.Security).fields ns → security_of ns ≡ Ok x → (ns ≡ security_numbers x) × GoodSecurity x
 security_read ns x w e =
@@ -223,7 +205,7 @@ module _ {X : Type 0} (l : Letter) (make : List ℕ → Result X FieldFault) (nu
   row_back x more g = line_written l make day (numbers x) more x (said.within x g) (said.back x g)
 
   row_opens : (x : X) (more : List ℕ) → Good x → starts l (written_line l (numbers x) ++ more) ≡ true
-  row_opens x more g = starts_written l (numbers x) more
+  row_opens x more g = grind (arith, nat_tests)
 
   row_wide : (x : X) → Good x → length (written_line l (numbers x)) ≡ width_of l
   row_wide x g = written_wide l (numbers x) (said.within x g)

@@ -4,25 +4,19 @@ use Rattle.std.specs.List.{flat_map, AllByRecursion}
 use Rattle.std.proofs.lemmas.List.{drop-drop, drop_at, length-append}
 use Rattle.rules.specs.Letters.{letter_rules}
 use Rattle.fields.specs.declared.fault.LineFault.{LineFault}
-use Rattle.fields.specs.Faults.{and_then, beside_of, line_at}
+use Rattle.fields.specs.Faults.{beside_of, line_at}
 use Rattle.fields.specs.Layout.{width_of}
 use Rattle.fields.proofs.Numbers.{by_then}
 use Rattle.dayfile.specs.Groups.{Kind, group, turn, following, starts, no_room, rows_of, oks}
 
-pub clash : {A : Type 0} → ◌≡◌ {A = ℕ} 0 1 → A
-clash e = absurd (omega arith)
-
 pub beside_ok : {T E F : Type 0} (r : Result T E) (p : E → F) (x : T) → beside_of r p ≡ Ok x → r ≡ Ok x
-beside_ok (Ok y) p x e = cc
-beside_ok (Err f) p x e = clash (cc)
+beside_ok r p x e = grind arith
 
 cond_not : {T E : Type 0} (b : Bool) (y x : T) (f : E) → cond b (Err f) (Ok y) ≡ Ok x → y ≡ x
-cond_not true y x f e = clash (cc)
-cond_not false y x f e = cc
+cond_not b y x f e = grind arith
 
 cond_some : {S E : Type 0} (b : Bool) (r : Result (Option S) E) (t : S) → cond b r (Ok None) ≡ Ok (Some t) → r ≡ Ok (Some t)
-cond_some true r t e = e
-cond_some false r t e = clash (cc)
+cond_some b r t e = grind arith
 
 -- a kind's lines are its good rows as they are written
 pub record Lined {R S : Type 0} (kind : Kind R S) (wrote : R → List ℕ) (Good : R → Type 0) : Type 0 where
@@ -83,11 +77,8 @@ module _ {R S : Type 0} (kind : Kind R S) where
             form = ap (λ (y : ℕ). take y line) w ∙ take-add (width_of kind.letter) (width_of kind.letter * m) line ∙ ap (λ (u : List ℕ). u ++ take (width_of kind.letter * m) (drop (width_of kind.letter) line)) is.0 ∙ ap (λ (u : List ℕ). wrote x ++ u) g.form ∙ ap (flat_map wrote) (sym f);
           }
 
-      ends : (count : ℕ) (s : S) (line : List ℕ) (n : ℕ) → count ≡ n → Told count s line n
-      ends count s line n e = (0, omega arith, none s line)
-
       by_turn : (room count : ℕ) (s : S) (nr : ℕ) (line : List ℕ) (n : ℕ) (o : Option S) → turn kind false s nr line ≡ Ok o → ◌≡◌ {A = Result ℕ LineFault} (elim o [ None ↦ Ok count | Some t ↦ group kind room (count + 1) t (nr + 1) (drop (width_of kind.letter) line) ]) (Ok n) → ((t : S) → group kind room (count + 1) t (nr + 1) (drop (width_of kind.letter) line) ≡ Ok n → Told (count + 1) t (drop (width_of kind.letter) line) n) → Told count s line n
-      by_turn room count s nr line n None eo e2 more = let q : count ≡ n = cc in ends count s line n q
+      by_turn room count s nr line n None eo e2 more = let q : count ≡ n = cc in (0, omega arith, none s line)
       by_turn room count s nr line n (Some t) eo e2 more =
           let x = turn_ok false s nr line t eo in
           let m = more t e2 in
@@ -96,7 +87,7 @@ module _ {R S : Type 0} (kind : Kind R S) where
       told : (room count : ℕ) (s : S) (nr : ℕ) (line : List ℕ) (n : ℕ) → group kind room count s nr line ≡ Ok n → Told count s line n
       unfolding group
       told zero count s nr line n e =
-          by_then (turn kind true s nr line) (λ o. Ok count) n e (λ o eo e2. let q : count ≡ n = cc in ends count s line n q)
+          by_then (turn kind true s nr line) (λ o. Ok count) n e (λ o eo e2. let q : count ≡ n = cc in (0, omega arith, none s line))
       told (suc room) count s nr line n e =
           by_then (turn kind false s nr line) (λ o. elim o [ None ↦ Ok count | Some t ↦ group kind room (count + 1) t (nr + 1) (drop (width_of kind.letter) line) ]) n e
           (λ o eo e2. by_turn room count s nr line n o eo e2 (λ t et. told room (count + 1) t (nr + 1) (drop (width_of kind.letter) line) n et))
@@ -109,18 +100,15 @@ module _ {R S : Type 0} (kind : Kind R S) where
           subst (Grouped s line) q t.2
 
       turn_written : (s : S) (nr : ℕ) (x : R) (more : List ℕ) (t : S) → Good x → kind.step s x ≡ Ok t → turn kind false s nr (wrote x ++ more) ≡ Ok (Some t)
-      turn_written s nr x more t g r =
-          let f : following kind s (wrote x ++ more) ≡ Ok t = ap (λ u. and_then u (λ y. kind.step s y)) (lined.back x more g) ∙ r in
-          ap (λ b. cond b (and_then (line_at (letter_rules kind.letter).byte nr (following kind s (wrote x ++ more))) (λ y. Ok (Some y))) (Ok None)) (lined.opens x more g)
-          ∙ ap (λ u. and_then (line_at (letter_rules kind.letter).byte nr u) (λ y. Ok (Some y))) f
+      turn_written s nr x more t g r = rw (lined.opens x more g, lined.back x more g, r) refl
 
       turn_over : (full : Bool) (s : S) (nr : ℕ) (rest : List ℕ) → starts kind.letter rest ≡ false → turn kind full s nr rest ≡ Ok None
-      turn_over full s nr rest e = ap (λ b. cond b (and_then (line_at (letter_rules kind.letter).byte nr (following kind s rest)) (λ y. cond full (Err (no_room kind.letter nr)) (Ok (Some y)))) (Ok None)) e
+      turn_over full s nr rest e = rw e refl
 
       accepts : (rows : List R) (room count : ℕ) (s : S) (nr : ℕ) (rest : List ℕ) → AllByRecursion Good rows → Steps s rows → length rows ≤ room → starts kind.letter rest ≡ false → group kind room count s nr (flat_map wrote rows ++ rest) ≡ Ok (count + length rows)
       unfolding group
-      accepts [] zero count s nr rest a r h o = ap (λ t. and_then t (λ w. Ok count)) (turn_over true s nr rest o) ∙ ap Ok (omega arith)
-      accepts [] (suc room) count s nr rest a r h o = ap (λ t. and_then t (λ w. elim w [ None ↦ Ok count | Some k ↦ group kind room (count + 1) k (nr + 1) (drop (width_of kind.letter) rest) ])) (turn_over false s nr rest o) ∙ ap Ok (omega arith)
+      accepts [] zero count s nr rest a r h o = rw (turn_over true s nr rest o) (ap Ok (omega arith))
+      accepts [] (suc room) count s nr rest a r h o = rw (turn_over false s nr rest o) (ap Ok (omega arith))
       accepts (x ∷ xs) zero count s nr rest a r h o = absurd (omega arith)
       accepts (x ∷ xs) (suc room) count s nr rest a r h o =
           let more = flat_map wrote xs ++ rest in
@@ -128,9 +116,7 @@ module _ {R S : Type 0} (kind : Kind R S) where
           let d : drop (width_of kind.letter) (wrote x ++ more) ≡ more = drop_at (wrote x) more (width_of kind.letter) (lined.wide x a.0) in
           let next = accepts xs room (count + 1) r.0 (nr + 1) rest a.1 r.2 (omega arith) o in
           ap (group kind (suc room) count s nr) (append_assoc (wrote x) (flat_map wrote xs) rest)
-          ∙ ap (λ w. and_then w (λ o. elim o [ None ↦ Ok count | Some k ↦ group kind room (count + 1) k (nr + 1) (drop (width_of kind.letter) (wrote x ++ more)) ])) t
-          ∙ ap (group kind room (count + 1) r.0 (nr + 1)) d
-          ∙ next ∙ ap Ok (omega arith)
+          ∙ rw (t, d) (next ∙ ap Ok (omega arith))
 
       -- rows as they are written are accepted
       pub accepted : (rows : List R) (room : ℕ) (s : S) (nr : ℕ) (rest : List ℕ) → AllByRecursion Good rows → Steps s rows → length rows ≤ room → starts kind.letter rest ≡ false → group kind room 0 s nr (flat_map wrote rows ++ rest) ≡ Ok (length rows)
@@ -144,9 +130,7 @@ module _ {R S : Type 0} (kind : Kind R S) where
           let d : drop (width_of kind.letter) (wrote x ++ more) ≡ more = drop_at (wrote x) more (width_of kind.letter) (lined.wide x a.0) in
           ap (rows_of kind (suc (length xs))) (append_assoc (wrote x) (flat_map wrote xs) rest)
           ∙ rows_first (length xs) (wrote x ++ more)
-          ∙ ap (λ u. oks u ++ rows_of kind (length xs) (drop (width_of kind.letter) (wrote x ++ more))) (lined.back x more a.0)
-          ∙ ap (λ (u : List ℕ). x ∷ rows_of kind (length xs) u) d
-          ∙ ap (λ us. x ∷ us) (rows_written xs rest a.1)
+          ∙ rw (lined.back x more a.0, d, rows_written xs rest a.1) refl
 
       pub joined_wide : (rows : List R) → AllByRecursion Good rows → length (flat_map wrote rows) ≡ width_of kind.letter * length rows
       joined_wide [] a = sym (mul-zero (width_of kind.letter))

@@ -12,12 +12,9 @@ use Rattle.gate.specs.Calls.{desk, Did, listed, notice}
 pub in_lines : (rows : List Security) (count place : ℕ) → place < length (map security_key (take count rows)) → place < count
 in_lines rows count place l = omega (arith, l, length-map (take count rows) security_key, length-take count rows)
 
-same_desk : (f f' : Figures) (l l' : List Security) → f ≡ f' → l ≡ l' → desk f l ≡ desk f' l'
-same_desk f f' l l' a b = cc
-
 -- an accepted notice
 pub did_notice : (f f' : Figures) (lines lines' : List Security) (code foreign total place : ℕ) → Some place ≡ listed lines code → false ≡ unfit_notice foreign total → f' ≡ settled f → lines' ≡ set lines place (noticed (get_or lines place no_security) (notice_band foreign total)) → Did (desk f lines) (notice code foreign total) None (desk f' lines')
 did_notice f f' lines lines' code foreign total place at fit g l = record {
   answers = rw (← at, ← fit) refl;
-  becomes = rw (← at, ← fit) (same_desk f' (settled f) lines' (set lines place (noticed (get_or lines place no_security) (notice_band foreign total))) g l);
+  becomes = rw (← at, ← fit, g, l) refl;
 }

@@ -1,6 +1,6 @@
 -- Whether some row has a number as the first of its key.
 use Rattle.std.proofs.Common.{◌≡◌, ℕ, zero, suc, ◌<◌, ◌≤◌, Bool, true, false, ◌||◌, List, [], ◌∷◌, map, length, get_or, Some, None, Option, Less, sym, refl, ap, ◌∙◌, ⊎_elim, arith}
-use Rattle.std.proofs.lemmas.Bool.{or_left, or_right, cases_eq, cases_lt}
+use Rattle.std.proofs.lemmas.Bool.{or_right, cases_eq, cases_lt}
 use Rattle.std.proofs.lemmas.Bool.Decides.{nat_tests}
 use Rattle.std.specs.List.{list_any}
 use Rattle.lookup.specs.declared.key.Pair.{Pair}
@@ -38,7 +38,7 @@ none_of n (o ∷ ks) f = rw (f 0 (omega arith)) (none_of n ks (λ j l. f (suc j)
 
 one_of : (n : ℕ) (ks : List (Option Pair)) (i : ℕ) → i < length ks → is_of n (get_or ks i None) ≡ true → some_of n ks ≡ true
 one_of n [] i l e = absurd (omega arith)
-one_of n (o ∷ ks) zero l e = or_left (is_of n o) _ e
+one_of n (o ∷ ks) zero l e = rw e refl
 one_of n (o ∷ ks) (suc i) l e = or_right (is_of n o) _ (one_of n ks i (omega arith) e)
 
 pub past : (n : ℕ) (ks : List (Option Pair)) (i : ℕ) → length ks ≤ i → ((j : ℕ) → j < i → is_before pair_order (least n) (get_or ks j None) ≡ true) → some_of n ks ≡ false

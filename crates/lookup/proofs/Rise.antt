@@ -1,31 +1,21 @@
 -- Tables that rise, and looking a key up in one by halving.
-use Rattle.std.proofs.Common.{◌≡◌, ℕ, zero, suc, ◌+◌, ◌-◌, ◌<◌, ◌≤◌, Bool, true, false, ◌&&◌, List, [], ◌∷◌, ◌++◌, map, length, get_or, drop, Some, None, Option, Ordering, Less, Equal, Greater, sym, refl, ap, ◌∙◌, subst, ⊎_elim, arith}
+use Rattle.std.proofs.Common.{◌≡◌, ℕ, zero, suc, ◌+◌, ◌-◌, ◌<◌, ◌≤◌, true, false, List, [], ◌∷◌, ◌++◌, map, length, get_or, drop, Some, None, Option, Ordering, Less, sym, refl, ap, ◌∙◌, subst, ⊎_elim, arith}
 use mathlib.Core.Bool.{and-true}
-use Rattle.std.proofs.lemmas.Bool.{and_parts, and_left, and_right, and_cases, cases_eq}
+use Rattle.std.proofs.lemmas.Bool.{and_parts, and_right, cases_eq}
 use Rattle.std.proofs.lemmas.List.{at_drop_more, at_drop_all, get_or-map, length-map, map_push}
-use Rattle.std.specs.Ordering.{is_lt, is_eq}
+use Rattle.std.specs.Ordering.{is_lt}
 use Rattle.std.specs.List.Sorted.{IsPartitionedBy, IsPartitionPoint}
 use Rattle.lookup.specs.Orders.{TotalOrder}
 use Rattle.lookup.specs.Lookup.{seek, is_before, is_at, is_above, rise_from, rise, Rising}
 
 less_is : (o : Ordering) → is_lt o ≡ true → o ≡ Less
-less_is Less e = refl
-less_is Equal e = absurd (let y : ◌≡◌ {A = ℕ} 0 1 = cc in omega arith)
-less_is Greater e = absurd (let y : ◌≡◌ {A = ℕ} 0 1 = cc in omega arith)
-
-equal_is : (o : Ordering) → is_eq o ≡ true → o ≡ Equal
-equal_is Less e = absurd (let y : ◌≡◌ {A = ℕ} 0 1 = cc in omega arith)
-equal_is Equal e = refl
-equal_is Greater e = absurd (let y : ◌≡◌ {A = ℕ} 0 1 = cc in omega arith)
-
-abbrev pick : ℕ → Option ℕ → Ordering → Option ℕ
-pick i r o = elim o [ Less ↦ r | Equal ↦ Some i | Greater ↦ None ]
+less_is o e = grind arith
 
 module _ {K : Type 0} (order : K → K → Ordering) (total : TotalOrder order) where
   -- the rows after a key are above it
   over : (l : K) (ks : List (Option K)) → rise_from order (Some l) ks ≡ true → (j : ℕ) (b : K) → get_or ks j None ≡ Some b → order l b ≡ Less
-  over l [] h j b e = absurd (let y : ◌≡◌ {A = ℕ} 0 1 = cc in omega arith)
-  over l (None ∷ ks) h j b e = absurd (let y : ◌≡◌ {A = ℕ} 0 1 = cc in omega arith)
+  over l [] h j b e = cc
+  over l (None ∷ ks) h j b e = cc
   over l (Some k ∷ ks) h zero b e =
       let q : k ≡ b = cc in
       subst (λ (x : K). order l x ≡ Less) q (less_is (order l k) (and_parts _ _ h).0)
@@ -33,8 +23,8 @@ module _ {K : Type 0} (order : K → K → Ordering) (total : TotalOrder order) 
       total.through l k b (less_is (order l k) (and_parts _ _ h).0) (over k ks (and_parts (is_lt (order l k)) _ h).1 j b e)
 
   up_from : (last : Option K) (ks : List (Option K)) → rise_from order last ks ≡ true → (i j : ℕ) (a b : K) → i < j → get_or ks i None ≡ Some a → get_or ks j None ≡ Some b → order a b ≡ Less
-  up_from last [] h i j a b l e f = absurd (let y : ◌≡◌ {A = ℕ} 0 1 = cc in omega arith)
-  up_from last (None ∷ ks) h i j a b l e f = absurd (let y : ◌≡◌ {A = ℕ} 0 1 = cc in omega arith)
+  up_from last [] h i j a b l e f = cc
+  up_from last (None ∷ ks) h i j a b l e f = cc
   up_from last (Some k ∷ ks) h i zero a b l e f = absurd (omega arith)
   up_from last (Some k ∷ ks) h zero (suc j) a b l e f =
       let q : k ≡ a = cc in
@@ -43,7 +33,7 @@ module _ {K : Type 0} (order : K → K → Ordering) (total : TotalOrder order) 
 
   present_from : (last : Option K) (ks : List (Option K)) → rise_from order last ks ≡ true → (i : ℕ) → i < length ks → (k : K) × (get_or ks i None ≡ Some k)
   present_from last [] h i l = absurd (omega arith)
-  present_from last (None ∷ ks) h i l = absurd (let y : ◌≡◌ {A = ℕ} 0 1 = cc in omega arith)
+  present_from last (None ∷ ks) h i l = cc
   present_from last (Some k ∷ ks) h zero l = (k, refl)
   present_from last (Some k ∷ ks) h (suc i) l = present_from (Some k) ks (and_parts (is_above order last k) _ h).1 i (omega arith)
 
@@ -60,8 +50,7 @@ module _ {K : Type 0} (order : K → K → Ordering) (total : TotalOrder order) 
   from_words last [] u r = refl
   from_words last (None ∷ ks) u r =
       let p = r.present 0 (omega arith) in
-      let e : None ≡ Some p.0 = p.1 in
-      absurd (let y : ◌≡◌ {A = ℕ} 0 1 = cc in omega arith)
+      cc p.1
   from_words last (Some k ∷ ks) u r =
       rw (u k refl) (from_words (Some k) ks (λ m e. ap is_lt (r.up 0 1 k m (omega arith) refl e)) (tail (Some k) ks r))
 
@@ -88,8 +77,7 @@ module _ {K : Type 0} (order : K → K → Ordering) (total : TotalOrder order) 
         ∙ all_before (map named rows) j up (omega (arith, l, length-map rows named)) (ap (is_before order key) (at j l) ∙ t) i (omega (arith, h))
 
     step : (s : ℕ) (o : Option K) (ks : List (Option K)) → is_before order key o ≡ true → seek order s (o ∷ ks) key ≡ seek order (s + 1) ks key
-    step s None ks b = refl
-    step s (Some k) ks b = ap (pick s (seek order (s + 1) ks key)) (less_is (order k key) b)
+    step s o ks b = grind arith
 
     skip : (s i : ℕ) (ks : List (Option K)) → i ≤ length ks → ((j : ℕ) → j < i → is_before order key (get_or ks j None) ≡ true) → seek order s ks key ≡ seek order (s + i) (drop i ks) key
     skip s zero ks l b = ap (λ n. seek order n ks key) (omega arith)
@@ -117,16 +105,10 @@ module _ {K : Type 0} (order : K → K → Ordering) (total : TotalOrder order) 
     at ks i l b = cut ks i (omega arith) b ∙ at_drop_more (λ r. seek order i r key) ks i None l
 
     hit : (o : Option K) (i : ℕ) (ks : List (Option K)) → is_at order key o ≡ true → seek order i (o ∷ ks) key ≡ Some i
-    hit None i ks e = absurd (let y : ◌≡◌ {A = ℕ} 0 1 = cc in omega arith)
-    hit (Some k) i ks e = ap (pick i (seek order (i + 1) ks key)) (equal_is (order k key) e)
-
-    miss_by : (o : Ordering) (i : ℕ) (r : Option ℕ) → is_lt o ≡ false → is_eq o ≡ false → pick i r o ≡ None
-    miss_by Less i r b e = absurd (let y : ◌≡◌ {A = ℕ} 0 1 = cc in omega arith)
-    miss_by Equal i r b e = absurd (let y : ◌≡◌ {A = ℕ} 0 1 = cc in omega arith)
-    miss_by Greater i r b e = refl
+    hit o i ks e = grind arith
 
     miss : (k : K) (i : ℕ) (ks : List (Option K)) → is_before order key (Some k) ≡ false → is_at order key (Some k) ≡ false → seek order i (Some k ∷ ks) key ≡ None
-    miss k i ks b e = miss_by (order k key) i (seek order (i + 1) ks key) b e
+    miss k i ks b e = grind arith
 
     pub found_at : (ks : List (Option K)) (i : ℕ) → i < length ks → Cut ks i → is_at order key (get_or ks i None) ≡ true → seek order 0 ks key ≡ Some i
     found_at ks i l b e = at ks i l b ∙ hit (get_or ks i None) i (drop (i + 1) ks) e
@@ -134,8 +116,7 @@ module _ {K : Type 0} (order : K → K → Ordering) (total : TotalOrder order) 
     pub none_at : (ks : List (Option K)) (i : ℕ) → rise_from order None ks ≡ true → i < length ks → Cut ks i → is_before order key (get_or ks i None) ≡ false → is_at order key (get_or ks i None) ≡ false → seek order 0 ks key ≡ None
     none_at ks i h l b f e =
         let p = present_from None ks h i l in
-        at ks i l b ∙ ap (λ o. seek order i (o ∷ drop (i + 1) ks) key) p.1
-        ∙ miss p.0 i (drop (i + 1) ks) (sym (ap (is_before order key) p.1) ∙ f) (sym (ap (is_at order key) p.1) ∙ e)
+        at ks i l b ∙ rw p.1 (miss p.0 i (drop (i + 1) ks) (rw p.1 at f) (rw p.1 at e))
 
     pub none_past : (ks : List (Option K)) (i : ℕ) → i ≤ length ks → length ks ≤ i → Cut ks i → seek order 0 ks key ≡ None
     none_past ks i l m b = cut ks i l b ∙ at_drop_all (λ r. seek order i r key) ks i m
@@ -144,38 +125,6 @@ module _ {K : Type 0} (order : K → K → Ordering) (total : TotalOrder order) 
 pub row_at : {X K : Type 0} (named : X → Option K) (rows : List X) (i : ℕ) (x : X) → i < length rows → x ≡ get_or rows i x → named x ≡ get_or (map named rows) i None
 row_at named rows i x l e = ap named e ∙ sym (get_or-map named rows i x None l)
 
--- one turn of the loop that asks whether a table rises
-module _ {X K : Type 0} (named : X → Option K) (order : K → K → Ordering) (rows : List X) where
-  abbrev left : Option K → ℕ → Bool
-  left last i = rise_from order last (map named (drop i rows))
-
-  turn : (last : Option K) (i : ℕ) (x : X) (o : Option K) → i < length rows → x ≡ get_or rows i x → o ≡ named x → left last i ≡ rise_from order last (o ∷ map named (drop (i + 1) rows))
-  turn last i x o h e n =
-      at_drop_more (λ r. rise_from order last (map named r)) rows i x h
-      ∙ ap (λ y. rise_from order last (named y ∷ map named (drop (i + 1) rows))) (sym e)
-      ∙ ap (λ y. rise_from order last (y ∷ map named (drop (i + 1) rows))) (sym n)
-
-  pub on_none : (last : Option K) (i : ℕ) (x : X) → i < length rows → x ≡ get_or rows i x → None ≡ named x → left last i ≡ false
-  on_none last i x h e n = turn last i x None h e n
-
-  pub on_low : (last : Option K) (i : ℕ) (x : X) (k : K) → i < length rows → x ≡ get_or rows i x → Some k ≡ named x → is_above order last k ≡ false → left last i ≡ false
-  on_low last i x k h e n b = turn last i x (Some k) h e n ∙ ap (λ t. t && left (Some k) (i + 1)) b
-
-  pub on_high : (last : Option K) (i : ℕ) (x : X) (k : K) → i < length rows → x ≡ get_or rows i x → Some k ≡ named x → is_above order last k ≡ true → left last i ≡ left (Some k) (i + 1)
-  on_high last i x k h e n b = turn last i x (Some k) h e n ∙ ap (λ t. t && left (Some k) (i + 1)) b
-
-  pub on_past : (last : Option K) (i : ℕ) → length rows ≤ i → left last i ≡ true
-  on_past last i h = at_drop_all (λ r. rise_from order last (map named r)) rows i h
-
--- what the check's answer says
-pub record Told {K : Type 0} (order : K → K → Ordering) (ks : List (Option K)) (r : Bool) : Type 0 where
-  pub is : r ≡ rise_from order None ks
-  pub sound : r ≡ true → Rising order ks
-  pub whole : Rising order ks → r ≡ true
-
-pub tells : {K : Type 0} (order : K → K → Ordering) (total : TotalOrder order) (ks : List (Option K)) (r : Bool) → r ≡ rise_from order None ks → Told order ks r
-tells order total ks r e = record { is = e; sound = λ t. rising_means order total ks (sym e ∙ t); whole = λ w. e ∙ words_mean order total ks w }
-
 -- one more row behind those of a table
 at_last : {K : Type 0} (ks : List (Option K)) → 0 < length ks → get_or (None ∷ ks) (length ks) None ≡ get_or ks (length ks - 1) None
 at_last [] l = absurd (omega arith)
@@ -183,12 +132,9 @@ at_last (o ∷ ks) l = ap (λ n. get_or (o ∷ ks) n None) (omega arith)
 
 module _ {K : Type 0} (order : K → K → Ordering) where
   low_push : (last : Option K) (ks : List (Option K)) (o : Option K) → rise_from order last ks ≡ false → rise_from order last (ks ++ o ∷ []) ≡ false
-  low_push last [] o h = absurd (let y : ◌≡◌ {A = ℕ} 0 1 = cc in omega arith)
+  low_push last [] o h = cc
   low_push last (None ∷ ks) o h = refl
-  low_push last (Some k ∷ ks) o h = ⊎_elim
-      (λ (e : is_above order last k ≡ false). and_left (is_above order last k) _ e)
-      (λ (e : rise_from order (Some k) ks ≡ false). and_right (is_above order last k) _ (low_push (Some k) ks o e))
-      (and_cases (is_above order last k) (rise_from order (Some k) ks) h)
+  low_push last (Some k ∷ ks) o h = grind (arith, low_push (Some k) ks o)
 
   none_push : (last : Option K) (ks : List (Option K)) → rise_from order last (ks ++ None ∷ []) ≡ false
   none_push last [] = refl
@@ -197,7 +143,7 @@ module _ {K : Type 0} (order : K → K → Ordering) where
 
   some_push : (last : Option K) (ks : List (Option K)) (k : K) → rise_from order last ks ≡ true → rise_from order last (ks ++ Some k ∷ []) ≡ is_above order (get_or (last ∷ ks) (length ks) None) k
   some_push last [] k h = and-true (is_above order last k)
-  some_push last (None ∷ ks) k h = absurd (let y : ◌≡◌ {A = ℕ} 0 1 = cc in omega arith)
+  some_push last (None ∷ ks) k h = cc
   some_push last (Some j ∷ ks) k h =
       let p = and_parts (is_above order last j) (rise_from order (Some j) ks) h in
       rw p.0 (some_push (Some j) ks k p.1)

@@ -1,9 +1,11 @@
 -- What a write of a sellable number means for a register of holdings.
-use Rattle.std.proofs.Common.{◌≡◌, ℕ, zero, suc, ◌+◌, ◌-◌, ◌≤◌, Bool, true, false, cond, eqb, leb, List, [], ◌∷◌, map, set, Some, None, Ok, Option, Result, sym, refl, ap, ◌∙◌, ⊎_elim, arith}
+use Rattle.std.proofs.Common.{◌≡◌, ℕ, ◌+◌, ◌-◌, ◌≤◌, Bool, true, false, cond, eqb, leb, List, map, set, Some, None, Ok, Option, Result, sym, refl, ap, ◌∙◌, ⊎_elim, arith}
 use Rattle.std.specs.Prelude.{IfSome}
 use mathlib.Core.Path.{fun_ext}
 use Rattle.std.specs.List.{slice_get}
 use Rattle.std.proofs.lemmas.Bool.{and_parts, and_from, le-leb, leb-true, cond-true, cases_eq, eq-eqb, ne_eqb}
+use Rattle.std.proofs.lemmas.Grind.{common_steps}
+use Rattle.std.proofs.lemmas.Option.{gets}
 use Rattle.std.proofs.lemmas.Bool.Decides.{nat_tests}
 use Rattle.rules.specs.declared.refusal.Refusal.{Refusal}
 use Rattle.rules.specs.declared.range.Quantity.{Quantity}
@@ -18,16 +20,10 @@ use Rattle.registers.specs.Registers.{held_meaning, pool_at}
 
 -- the row at a place of rows one of which was replaced
 set_same : {X : Type 0} (rows : List X) (k : ℕ) (x y : X) → slice_get rows k ≡ Some y → slice_get (set rows k x) k ≡ Some x
-set_same [] k x y e = absurd (let z : ◌≡◌ {A = ℕ} 0 1 = cc in omega arith)
-set_same (r ∷ rows) zero x y e = refl
-set_same (r ∷ rows) (suc k) x y e = set_same rows k x y e
+set_same rows k x y e = grind (arith, common_steps, gets)
 
 set_other : {X : Type 0} (rows : List X) (k j : ℕ) (x : X) → (j ≡ k → ⊥) → slice_get (set rows k x) j ≡ slice_get rows j
-set_other [] k j x d = refl
-set_other (r ∷ rows) zero zero x d = absurd (d refl)
-set_other (r ∷ rows) zero (suc j) x d = refl
-set_other (r ∷ rows) (suc k) zero x d = refl
-set_other (r ∷ rows) (suc k) (suc j) x d = set_other rows k j x (λ e. d (ap suc e))
+set_other rows k j x d = grind (arith, common_steps, gets)
 
 module _ {O : Type 0} (numbers : Quantity) (number : O → ℕ) where
   abbrev present : Holding O → Bool
@@ -42,10 +38,10 @@ module _ {O : Type 0} (numbers : Quantity) (number : O → ℕ) where
 
   of_row : (h : Holding O) (b : Bool) (p : Pool) → present h ≡ b → cond b (Some (pool_of h.opening h.sellable)) None ≡ Some p → Line (Some h) p
   of_row h true p e f = record { row = h; is = refl; here = e; numbers_of = cc }
-  of_row h false p e f = absurd (let z : ◌≡◌ {A = ℕ} 0 1 = cc in omega arith)
+  of_row h false p e f = cc
 
   line_of : (line : Option (Holding O)) (p : Pool) → pool_at numbers number line ≡ Some p → Line line p
-  line_of None p e = absurd (let z : ◌≡◌ {A = ℕ} 0 1 = cc in omega arith)
+  line_of None p e = cc
   line_of (Some h) p e = of_row h (present h) p refl e
 
   -- no more of a pool may be sold than there was at the opening

@@ -2,21 +2,13 @@
 use Rattle.std.proofs.Common.{◌≡◌, ℕ, zero, suc, ◌<◌, ◌≤◌, Bool, List, [], ◌∷◌, ◌++◌, map, length, take, drop, set, None, Option, Ordering, sym, refl, ap, ◌∙◌, arith}
 use Rattle.std.specs.Prelude.{IfSome}
 use Rattle.std.specs.List.{slice_get}
-use Rattle.std.proofs.lemmas.List.{length-set, take-append-drop}
+use Rattle.std.proofs.lemmas.List.{length-set, take-append-drop, drop-set-lt}
+use Rattle.std.proofs.Math.Seq.{take-set-lt}
 use Rattle.lookup.specs.Lookup.{rise, rise_from}
-
-take_set_in : {X : Type 0} (n : ℕ) (rows : List X) (k : ℕ) (x : X) → take n (set rows k x) ≡ set (take n rows) k x
-take_set_in zero rows k x = refl
-take_set_in (suc n) [] k x = refl
-take_set_in (suc n) (y ∷ ys) zero x = refl
-take_set_in (suc n) (y ∷ ys) (suc k) x = ap (λ r. y ∷ r) (take_set_in n ys k x)
 
 -- a row that is written among the lines
 pub set_in_lines : {X : Type 0} (n : ℕ) (rows : List X) (k : ℕ) (x : X) → k < n → set (take n rows) k x ++ drop n rows ≡ set rows k x
-set_in_lines zero rows k x l = absurd (omega (arith, l))
-set_in_lines (suc n) [] k x l = refl
-set_in_lines (suc n) (y ∷ ys) zero x l = ap (λ r. x ∷ r) (take-append-drop n ys)
-set_in_lines (suc n) (y ∷ ys) (suc k) x l = ap (λ r. y ∷ r) (set_in_lines n ys k x (omega (arith, l)))
+set_in_lines n rows k x l = rw (← take-set-lt n rows k x l, ← drop-set-lt n rows k x l) (take-append-drop n (set rows k x))
 
 -- a row that is replaced by one of the same key leaves the keys as they were
 pub keys_set : {X K : Type 0} (name : X → Option K) (rows : List X) (k : ℕ) (x : X) → IfSome (slice_get rows k) (λ y. name x ≡ name y) → map name (set rows k x) ≡ map name rows
@@ -29,5 +21,5 @@ module _ {X K : Type 0} (order : K → K → Ordering) (name : X → Option K) w
   pub kept : (rows : List X) (count k : ℕ) (x : X) (b : Bool) → k < count → IfSome (slice_get (take count rows) k) (λ y. name x ≡ name y) → (count ≤ length rows) × (b ≡ rise order name (take count rows)) → (count ≤ length (set (take count rows) k x ++ drop count rows)) × (b ≡ rise order name (take count (set (take count rows) k x ++ drop count rows)))
   kept rows count k x b l e was = (
     omega (arith, was.0, length-set rows k x, ap length (set_in_lines count rows k x l)),
-    was.1 ∙ sym (ap (λ r. rise order name (take count r)) (set_in_lines count rows k x l) ∙ ap (λ r. rise order name r) (take_set_in count rows k x) ∙ ap (rise_from order None) (keys_set name (take count rows) k x e)),
+    was.1 ∙ sym (ap (λ r. rise order name (take count r)) (set_in_lines count rows k x l) ∙ ap (λ r. rise order name r) (take-set-lt count rows k x l) ∙ ap (rise_from order None) (keys_set name (take count rows) k x e)),
   )

@@ -1,21 +1,18 @@
-use Rattle.std.proofs.Common.{map, sym, ◌∙◌}
-use Rattle.lookup.proofs.Rise.{on_none, on_low, on_high, on_past, tells}
+use Rattle.std.proofs.Common.{◌≡◌, ◌∙◌, false, map, None, arith}
+use Rattle.std.proofs.lemmas.Grind.{common_steps}
+use Rattle.lookup.specs.Lookup.{rise_from}
+use Rattle.lookup.proofs.Rise.{rising_means, words_mean}
 use Rattle.lookup.proofs.search.rises.Goals as goal
 
-pub returns-in_default : goal.returns-in_default
-returns-in_default g c =
-    let t = tells g.R.Key.Ord.cmp g.met.R.Key.Key.total (map g.R.Row.named c.args.rows.now) _ (sym (on_none g.R.Row.named g.R.Key.Ord.cmp c.args.rows.now c.loop-row.last c.loop-row.row-index c.row-item.result c.loop-row-test.true c.row-item.is c.in_default.ensures) ∙ c.loop-row.invariant) in
-    record { is = t.is; sound = t.sound; whole = t.whole }
+pub returns-in_default-clause-whole : goal.returns-in_default-clause-whole
+returns-in_default-clause-whole g c = λ w.
+    let e : false ≡ rise_from g.R.Key.Ord.cmp None (map g.R.Row.named c.args.rows.now) = grind (arith, common_steps) in
+    e ∙ words_mean g.R.Key.Ord.cmp g.met.R.Key.Key.total (map g.R.Row.named c.args.rows.now) w
 
-pub returns-then-not-follows : goal.returns-then-not-follows
-returns-then-not-follows g c =
-    let t = tells g.R.Key.Ord.cmp g.met.R.Key.Key.total (map g.R.Row.named c.args.rows.now) _ (sym (on_low g.R.Row.named g.R.Key.Ord.cmp c.args.rows.now c.loop-row.last c.loop-row.row-index c.row-item.result c.in-Some.k c.loop-row-test.true c.row-item.is c.in-Some.ensures (sym c.if-not-follows.ensures)) ∙ c.loop-row.invariant) in
-    record { is = t.is; sound = t.sound; whole = t.whole }
+pub returns-then-not-follows-clause-whole : goal.returns-then-not-follows-clause-whole
+returns-then-not-follows-clause-whole g c = λ w.
+    let e : false ≡ rise_from g.R.Key.Ord.cmp None (map g.R.Row.named c.args.rows.now) = grind (arith, common_steps) in
+    e ∙ words_mean g.R.Key.Ord.cmp g.met.R.Key.Key.total (map g.R.Row.named c.args.rows.now) w
 
-pub loop-row-preserved : goal.loop-row-preserved
-loop-row-preserved g c = sym (on_high g.R.Row.named g.R.Key.Ord.cmp c.args.rows.now c.loop-row.last c.loop-row.row-index c.row-item.result c.in-Some.k c.loop-row-test.true c.row-item.is c.in-Some.ensures (sym c.if-not-follows.ensures)) ∙ c.loop-row.invariant
-
-pub returns : goal.returns
-returns g c =
-    let t = tells g.R.Key.Ord.cmp g.met.R.Key.Key.total (map g.R.Row.named c.args.rows.now) _ (sym (on_past g.R.Row.named g.R.Key.Ord.cmp c.args.rows.now c.loop-row.last c.loop-row.row-index c.loop-row-test.false) ∙ c.loop-row.invariant) in
-    record { is = t.is; sound = t.sound; whole = t.whole }
+pub returns-clause-sound : goal.returns-clause-sound
+returns-clause-sound g c = λ t. rising_means g.R.Key.Ord.cmp g.met.R.Key.Key.total (map g.R.Row.named c.args.rows.now) (grind (arith, common_steps))
