@@ -7,17 +7,18 @@ use super::group::fill;
 use super::judging::judged;
 use super::lent::Tables;
 use super::loaded::Loaded;
-use super::plan::{Counts, Opening};
+use super::plan::{Opening, Plan};
 use fields::fault::DayFault;
 use fields::rest::Rest;
 use gate::day::{LoadingDay, TradingDay};
 use rules::letter::Letter;
 
 // Makes the lines of a planned day part those of the tables.
-fn write(opening: Opening, counts: Counts, input: &[u8], tables: &mut Tables)
-    requires { Planned input.now (room_of tables.old) (plan opening counts) }
-    ensures { tables.new ≡ filled_by (plan opening counts) input.now tables.old }
+fn write(made: &Plan, input: &[u8], tables: &mut Tables)
+    requires { Planned input.now (room_of tables.old) (plan made.now.opening made.now.counts) }
+    ensures { tables.new ≡ filled_by (plan made.now.opening made.now.counts) input.now tables.old }
 {
+    let counts = made.counts;
     let mut rest = Rest::whole(input);
     rest.pass(Letter::Day);
     fill(&mut tables.securities, &mut rest, counts.securities);
@@ -51,7 +52,7 @@ pub fn load<'i>(
 {
     match judged(input, tables.room()) {
         Ok(plan) => {
-            write(plan.opening, plan.counts, input, tables);
+            write(&plan, input, tables);
             Ok(Loaded {
                 day: opened(day, plan.opening),
                 events: plan.events,
