@@ -1,10 +1,14 @@
 -- How a day closes.
-use Rattle.std.specs.Prelude.{Bool, true, false, not, List, [], ◌∷◌, Option, nat_lt}
+use Rattle.std.specs.Prelude.{◌≡◌, ℕ, ◌<◌, Bool, true, false, not, ◌&&◌, List, [], ◌∷◌, length, get_or, take, Option, nat_lt, slice_index_or}
+use Rattle.std.specs.List.{list_all}
 use Rattle.rules.specs.declared.phase.Phase.{Phase}
 use Rattle.rules.specs.declared.phase.Phase.TheVariants.{OpeningCall, OpeningCallNoCancel, Continuous, ClosingCall, AfterHours}
 use Rattle.rules.specs.declared.refusal.Refusal.{Refusal}
 use Rattle.rules.specs.declared.refusal.Refusal.TheVariants as refusal
 use Rattle.rules.specs.Rules.{when}
+use Rattle.orders.specs.declared.order.Order.{Order}
+use Rattle.orders.specs.declared.order.State.TheVariants.{Done}
+use Rattle.orders.specs.Records.{is_done, no_order, remainder, sound_order}
 use Rattle.gate.specs.declared.figures.Figures.{Figures}
 
 -- The phase after hours.
@@ -15,6 +19,23 @@ is_after_hours Continuous = false
 is_after_hours ClosingCall = false
 is_after_hours AfterHours = true
 
--- A day closes after hours, and with no order counted.
-abbrev pub closing_rules : Figures → List (Option Refusal)
-closing_rules f = when (not (is_after_hours f.phase)) refusal.Business ∷ (when (nat_lt 0 f.count) refusal.Business ∷ [])
+-- Each record is sound.
+abbrev pub all_sound : List Order → Bool
+all_sound = list_all sound_order
+
+-- Each record is done.
+abbrev pub all_done : List Order → Bool
+all_done = list_all (λ o. is_done o.state)
+
+-- A day closes over a book that holds its orders, each of them sound; after hours, and with each of them done.
+abbrev pub closing_rules : Figures → List Order → List (Option Refusal)
+closing_rules f book =
+    when (nat_lt (length book) f.count) refusal.Unsound
+    ∷ (when (not (all_sound (take f.count book))) refusal.Unsound
+    ∷ (when (not (is_after_hours f.phase)) refusal.Business
+    ∷ (when (not (all_done (take f.count book))) refusal.Business
+    ∷ [])))
+
+-- Nothing is in flight: each of the day's orders is done, and no remainder is left of it.
+abbrev pub NothingInFlight : Figures → List Order → Type 0
+NothingInFlight f book = (i : ℕ) → i < f.count → ((get_or book i no_order).state ≡ Done) × (remainder (slice_index_or book i no_order) ≡ 0)

@@ -29,3 +29,11 @@ letter_rules letter.End = record { byte = 69; part = part.Day; fields = field.Li
 letter_rules letter.Step = record { byte = 72; part = part.Event; fields = [] }
 letter_rules letter.Notice = record { byte = 70; part = part.Event; fields = field.AnyNumber ∷ (field.AnyNumber ∷ (field.AnyNumber ∷ [])) }
 letter_rules letter.Link = record { byte = 85; part = part.Event; fields = field.Link ∷ [] }
+letter_rules letter.Buy = record { byte = 66; part = part.Event; fields = field.AnyNumber ∷ (field.AnyNumber ∷ (field.AnyNumber ∷ (field.AnyNumber ∷ (field.AnyNumber ∷ [])))) }
+letter_rules letter.Sell = record { byte = 76; part = part.Event; fields = field.AnyNumber ∷ (field.AnyNumber ∷ (field.AnyNumber ∷ (field.AnyNumber ∷ (field.AnyNumber ∷ [])))) }
+letter_rules letter.Trade = record { byte = 84; part = part.Event; fields = field.AnyNumber ∷ (field.AnyNumber ∷ (field.AnyNumber ∷ [])) }
+letter_rules letter.Return = record { byte = 82; part = part.Event; fields = field.AnyNumber ∷ [] }
+letter_rules letter.Confirm = record { byte = 89; part = part.Event; fields = field.AnyNumber ∷ [] }
+letter_rules letter.Decline = record { byte = 78; part = part.Event; fields = field.AnyNumber ∷ [] }
+letter_rules letter.Cancel = record { byte = 67; part = part.Event; fields = field.AnyNumber ∷ (field.AnyNumber ∷ []) }
+letter_rules letter.Close = record { byte = 90; part = part.Event; fields = [] }

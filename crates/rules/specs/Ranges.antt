@@ -27,5 +27,6 @@ range_of quantity.Holding = from_to 1 9999999999
 range_of quantity.Lines = from_to 0 16384
 range_of quantity.Link = from_to 0 1
 range_of quantity.Price = from_to 1 999999
+range_of quantity.Shares = from_to 1 1000000
 range_of quantity.TotalShares = from_to 1 1000000000000
 range_of quantity.AnyNumber = from_to 0 9999999999999999

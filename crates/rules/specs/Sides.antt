@@ -14,3 +14,8 @@ pub record SideRules : Type 0 where
 abbrev pub side_rules : Side → SideRules
 side_rules Buy = record { number = 1; lot = record { least = 100; most = 1000000; unit = 100 } }
 side_rules Sell = record { number = 2; lot = from_to 1 1000000 }
+
+-- One thing for a buy, another for a sell.
+abbrev pub by_side {ℓ} : {X : Type ℓ} → Side → X → X → X
+by_side Buy x y = x
+by_side Sell x y = y

@@ -1,6 +1,6 @@
 ghost use Rattle.std.specs.Prelude.{◌≡◌};
 ghost use Rattle.std.specs.Option.{ok_or};
-ghost use Rattle.rules.specs.Buyings.{buying_numbered, after_notice};
+ghost use Rattle.rules.specs.Buyings.{buying_rules, buying_numbered, after_notice};
 ghost use Rattle.rules.specs.declared.refusal.Refusal.TheVariants as refusal;
 
 use super::notice::NoticeBand;
@@ -32,6 +32,17 @@ impl TryFrom<u64> for Buying {
 }
 
 impl Buying {
+    // The refusal that a buy gets: none where the security may be bought.
+    pub fn refusal(self) -> Option<Refusal>
+        ensures { result ≡ (buying_rules self).refusal }
+    {
+        match self {
+            Buying::Open => None,
+            Buying::SellOnly => Some(Refusal::SellOnly),
+            Buying::Suspended => Some(Refusal::Suspended),
+        }
+    }
+
     // The buying state that a notice of the band leaves.
     pub fn noticed(self, band: NoticeBand) -> Buying
         ensures { result ≡ after_notice self band }

@@ -28,6 +28,14 @@ pub enum Letter {
     Step = b'H' as isize,
     Notice = b'F' as isize,
     Link = b'U' as isize,
+    Buy = b'B' as isize,
+    Sell = b'L' as isize,
+    Trade = b'T' as isize,
+    Return = b'R' as isize,
+    Confirm = b'Y' as isize,
+    Decline = b'N' as isize,
+    Cancel = b'C' as isize,
+    Close = b'Z' as isize,
 }
 
 impl Letter {
@@ -44,11 +52,16 @@ impl Letter {
         ensures few { result ≤ 5 }
     {
         match self {
-            Letter::Step => 0,
-            Letter::Link => 1,
-            Letter::Designation => 2,
-            Letter::Day | Letter::Holding | Letter::AccountHolding | Letter::Notice => 3,
+            Letter::Step | Letter::Close => 0,
+            Letter::Link | Letter::Return | Letter::Confirm | Letter::Decline => 1,
+            Letter::Designation | Letter::Cancel => 2,
+            Letter::Day
+            | Letter::Holding
+            | Letter::AccountHolding
+            | Letter::Notice
+            | Letter::Trade => 3,
             Letter::Security | Letter::End => 4,
+            Letter::Buy | Letter::Sell => 5,
         }
     }
 }

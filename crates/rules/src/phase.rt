@@ -31,4 +31,17 @@ impl Phase {
             Phase::AfterHours => None,
         }
     }
+    // Whether orders are taken in this phase.
+    pub fn takes_orders(self) -> bool
+        ensures { result ≡ (phase_rules self).orders }
+    {
+        self != Phase::AfterHours
+    }
+
+    // Whether a cancel may be asked in this phase.
+    pub fn cancels(self) -> bool
+        ensures { result ≡ (phase_rules self).cancels }
+    {
+        matches!(self, Phase::OpeningCall | Phase::Continuous)
+    }
 }

@@ -44,6 +44,7 @@ pub enum Quantity {
     Lines,
     Link,
     Price,
+    Shares,
     TotalShares,
     AnyNumber,
 }
@@ -70,6 +71,7 @@ impl Quantity {
             Quantity::Lines => from_to(0, 16_384),
             Quantity::Link => from_to(0, 1),
             Quantity::Price => from_to(1, 999_999),
+            Quantity::Shares => from_to(1, 1_000_000),
             Quantity::TotalShares => from_to(1, 1_000_000_000_000),
             Quantity::AnyNumber => from_to(0, 9_999_999_999_999_999),
         }

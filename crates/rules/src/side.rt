@@ -3,8 +3,9 @@ ghost use Rattle.rules.specs.Sides.{side_rules};
 
 use super::range::Range;
 
-#[derive(Clone, Copy, PartialEq, Eq, Debug)]
+#[derive(Clone, Copy, PartialEq, Eq, Debug, Default)]
 pub enum Side {
+    #[default]
     Buy,
     Sell,
 }

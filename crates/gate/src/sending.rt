@@ -1,0 +1,67 @@
+ghost use Rattle.std.specs.Prelude.{◌≡◌, List};
+ghost use Rattle.rules.specs.Rules.{refusal_in};
+ghost use Rattle.tables.specs.declared.rows.Security.{Security as a_security};
+ghost use Rattle.registers.specs.Meaning.{Meaning};
+ghost use Rattle.gate.specs.Desks.{desk};
+ghost use Rattle.gate.specs.Calls.{Did};
+ghost use Rattle.gate.specs.Calls.{send as a_send, void as a_void};
+
+use super::balance::{raised, settle};
+use super::day::TradingDay;
+use super::ending::put_back;
+use super::numbering::{has_no_record, is_of_other_day};
+use super::pass::Pass;
+use orders::order::Order;
+use registers::Register;
+use rules::refusal::Refusal;
+
+impl TradingDay {
+    // Sends the order of a pass to the market; the pass is used up.
+    pub fn send(&mut self, book: &mut [Order], pass: Pass) -> Result<(), Refusal>
+        ensures { (list : List a_security) (p a : Meaning) → Did (desk self.old.figures list p a book.old) (a_send pass) (refusal_in result) (desk self.new.figures list p a book.new) }
+    {
+        let f = self.figures;
+        let other = is_of_other_day(f, &pass);
+        let Pass {
+            market: _,
+            date: _,
+            number,
+        } = pass;
+        if other || has_no_record(f, book.len(), number) {
+            return Err(Refusal::Pass);
+        }
+        let place = (number - 1) as usize;
+        book[place] = book[place].send()?;
+        self.figures = settle(f);
+        Ok(())
+    }
+
+    // Keeps the order of a pass from the market and ends it; the pass is used up.
+    pub fn void<P: Register, A: Register>(
+        &mut self,
+        participants: &mut P,
+        accounts: &mut A,
+        book: &mut [Order],
+        pass: Pass,
+    ) -> Result<(), Refusal>
+        ensures { (list : List a_security) → Did (desk self.old.figures list (P.Register.meaning participants.old) (A.Register.meaning accounts.old) book.old) (a_void pass) (refusal_in result) (desk self.new.figures list (P.Register.meaning participants.new) (A.Register.meaning accounts.new) book.new) }
+    {
+        let f = self.figures;
+        let other = is_of_other_day(f, &pass);
+        let Pass {
+            market: _,
+            date: _,
+            number,
+        } = pass;
+        if other || has_no_record(f, book.len(), number) {
+            return Err(Refusal::Pass);
+        }
+        let place = (number - 1) as usize;
+        let order = book[place];
+        let ended = order.void()?;
+        put_back(f, participants, accounts, order, ended.raise)?;
+        book[place] = ended.order;
+        self.figures = raised(f, ended.raise);
+        Ok(())
+    }
+}

@@ -1,0 +1,39 @@
+ghost use Rattle.std.specs.Prelude.{◌≡◌, List};
+ghost use Rattle.rules.specs.Rules.{refusal_in};
+ghost use Rattle.tables.specs.declared.rows.Security.{Security as a_security};
+ghost use Rattle.registers.specs.Meaning.{Meaning};
+ghost use Rattle.gate.specs.Desks.{desk};
+ghost use Rattle.gate.specs.Calls.{Did};
+ghost use Rattle.gate.specs.Calls.{trade as a_trade};
+
+use super::balance::{is_too_high, raised};
+use super::day::TradingDay;
+use super::numbering::has_no_record;
+use orders::order::Order;
+use rules::refusal::Refusal;
+
+impl TradingDay {
+    // The market has traded shares of an order at a price.
+    pub fn trade(
+        &mut self,
+        book: &mut [Order],
+        number: u64,
+        shares: u64,
+        price: u64,
+    ) -> Result<(), Refusal>
+        ensures { (list : List a_security) (p a : Meaning) → Did (desk self.old.figures list p a book.old) (a_trade number shares price) (refusal_in result) (desk self.new.figures list p a book.new) }
+    {
+        let f = self.figures;
+        if has_no_record(f, book.len(), number) {
+            return Err(Refusal::Order);
+        }
+        let place = (number - 1) as usize;
+        let filled = book[place].fill(shares, price)?;
+        if is_too_high(f, filled.raise) {
+            return Err(Refusal::Unsound);
+        }
+        book[place] = filled.order;
+        self.figures = raised(f, filled.raise);
+        Ok(())
+    }
+}

@@ -1,0 +1,5 @@
+pub mod Sums
+pub mod Registers
+pub mod Conserve
+pub mod Clearing
+pub mod Worked

@@ -1,0 +1,96 @@
+-- Histories of a trading day, and the law that holds in each of them.
+use Rattle.std.specs.Prelude.{◌≡◌, ℕ, ◌+◌, ◌<◌, true, List, [], ◌∷◌, length, drop, pos, ◌+ℤ◌, ◌-ℤ◌, ◌≤ℤ◌, Some, None, Option, ◌≢◌}
+use Rattle.rules.specs.declared.market.Market.{Market}
+use Rattle.rules.specs.declared.refusal.Refusal.{Refusal}
+use Rattle.rules.specs.declared.side.Side.TheVariants.{Buy}
+use Rattle.rules.specs.Phases.{phase_rules}
+use Rattle.tables.specs.declared.rows.Security.{Security}
+use Rattle.registers.specs.declared.pool.Pool.{Pool}
+use Rattle.registers.specs.Meaning.{Fresh, Meaning}
+use Rattle.orders.specs.declared.order.Ask.{Ask}
+use Rattle.orders.specs.declared.order.Order.{Order}
+use Rattle.gate.specs.Calls.{Call, Did, refusal_of, reserve}
+use Rattle.gate.specs.Closed.{NothingInFlight}
+use Rattle.gate.specs.Desks.{Desk, desk}
+use Rattle.gate.specs.Opened.{opened}
+use Rattle.history.specs.Tally.{Finding, Holder, accounts, bought, figure, participants, shares_reserved, shares_sold, sold, sum_of, tally}
+
+-- A desk's registers.
+abbrev pub register_of : Desk → Holder → Meaning
+register_of d participants = d.participants
+register_of d accounts = d.accounts
+
+-- The finding rules of a desk's registers.
+abbrev pub finding_of : Desk → Finding
+finding_of d holder = (register_of d holder).finds
+
+-- The accepted calls, the newest first, after one more call and its answer.
+abbrev pub noted : Option Refusal → Call → List Call → List Call
+noted None c cs = c ∷ cs
+noted (Some e) c cs = cs
+
+-- From one desk some calls, accepted or refused, have led to another, and these are the accepted ones.
+pub data Ran (d₀ : Desk) : Desk → List Call → Type 0 where
+  no_call : Ran d₀ d₀ []
+  one_more : {d : Desk} {cs : List Call} (d' : Desk) (c : Call) (answer : Option Refusal) → Ran d₀ d cs → Did d c answer d' → Ran d₀ d' (noted answer c cs)
+
+-- A pool's opening shares are those that may still be sold, those reserved and those sold.
+abbrev pub Balanced : Option Pool → ℕ → ℕ → Type 0
+Balanced (Some p) reserved sold = p.opening ≡ p.sellable + reserved + sold
+Balanced None reserved sold = Unit {0}
+
+-- After the accepted calls the figure is 0 or less, in a phase in which that shuts buying.
+abbrev pub LowAfter : Finding → ℕ → List Call → Type 0
+LowAfter finds quota cs = ((phase_rules (tally finds cs).phase).shuts ≡ true) × (figure quota (tally finds cs).entries ≤ℤ pos 0)
+
+-- It was so at some moment: after one of the accepted calls, since which there were k more.
+abbrev pub BeenLow : Finding → ℕ → List Call → Type 0
+BeenLow finds quota cs = (k : ℕ) × (k < length cs) × LowAfter finds quota (drop k cs)
+
+-- The law of a day of a quota at a desk that the accepted calls have led to.
+pub record Law (finds : Finding) (quota : ℕ) (cs : List Call) (d : Desk) : Type 0 where
+  -- the balance is the quota less what is reserved to be bought and what was bought, and plus what was sold
+  pub balance : d.figures.balance ≡ figure quota (tally finds cs).entries
+  -- of every pool of every register, the shares that it opened with may still be sold, are reserved, or are sold
+  pub pools : (holder : Holder) (pool : ℕ) → Balanced ((register_of d holder).pools pool) (sum_of (shares_reserved holder pool) (tally finds cs).entries) (sum_of (shares_sold holder pool) (tally finds cs).entries)
+  -- where buying is shut, the balance has been low
+  pub shut_since : d.figures.shut ≡ true → BeenLow finds quota cs
+  -- since the balance has been low, buying is shut
+  pub since_shut : BeenLow finds quota cs → d.figures.shut ≡ true
+  -- a day on which buying is shut accepts no buy
+  pub no_buy : d.figures.shut ≡ true → (a : Ask) → a.side ≡ Buy → refusal_of d (reserve a) ≢ None
+
+-- What holds at a desk of every history that leads to it, of a day opened over any list, book and fresh registers.
+abbrev pub InEveryHistory : (Finding → ℕ → List Call → Desk → Type 0) → Desk → Type 0
+InEveryHistory Holds d =
+    (market : Market) (date quota : ℕ) (list : List Security) (p a : Meaning) (book : List Order) → Fresh p → Fresh a →
+    (cs : List Call) → Ran (desk (opened market date quota) list p a book) d cs →
+    Holds (finding_of (desk (opened market date quota) list p a book)) quota cs d
+
+-- The law holds at the desk, whichever history led to it.
+abbrev pub Kept : Desk → Type 0
+Kept = InEveryHistory Law
+
+-- The law holds at every desk, whichever history led to it.
+abbrev pub Conserved : Type 0
+Conserved = (d : Desk) → Kept d
+
+-- A pool's opening shares are those that may still be sold and those sold.
+abbrev pub SoldOff : Option Pool → ℕ → Type 0
+SoldOff (Some p) sold = p.opening ≡ p.sellable + sold
+SoldOff None sold = Unit {0}
+
+-- The law of a day with nothing in flight: nothing is reserved any more.
+pub record ClosingLaw (finds : Finding) (quota : ℕ) (cs : List Call) (d : Desk) : Type 0 where
+  -- the balance is the quota less what was bought and plus what was sold
+  pub balance : d.figures.balance ≡ (pos quota -ℤ pos (sum_of bought (tally finds cs).entries)) +ℤ pos (sum_of sold (tally finds cs).entries)
+  -- of every pool of every register, the shares that it opened with may still be sold or are sold
+  pub pools : (holder : Holder) (pool : ℕ) → SoldOff ((register_of d holder).pools pool) (sum_of (shares_sold holder pool) (tally finds cs).entries)
+
+-- Nothing is reserved any more at the desk, whichever history led to it.
+abbrev pub Cleared : Desk → Type 0
+Cleared = InEveryHistory ClosingLaw
+
+-- Nothing is reserved any more at any desk with nothing in flight, whichever history led to it.
+abbrev pub AtClose : Type 0
+AtClose = (d : Desk) → NothingInFlight d.figures d.book → Cleared d

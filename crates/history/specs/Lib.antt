@@ -1,0 +1,4 @@
+pub mod Tally
+pub mod History
+pub mod Shares
+pub mod Examples

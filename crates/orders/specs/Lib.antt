@@ -1,0 +1,3 @@
+pub mod Records
+pub mod Faults
+pub mod Outcomes

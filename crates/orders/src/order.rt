@@ -1,0 +1,63 @@
+ghost use Rattle.std.specs.Prelude.{◌≡◌};
+ghost use Rattle.orders.specs.Records.{is_live};
+
+use rules::side::Side;
+
+// Whether a live order's cancel was asked for.
+#[derive(Clone, Copy, PartialEq, Eq, Debug)]
+pub enum Cancel {
+    Unasked,
+    Asked,
+}
+
+// Where an order stands: held at the gate, live at the market, or done.
+#[derive(Clone, Copy, PartialEq, Eq, Debug, Default)]
+pub enum State {
+    #[default]
+    Held,
+    Live(Cancel),
+    Done,
+}
+
+impl State {
+    // Whether the order is at the market.
+    pub fn is_live(self) -> bool
+        ensures { result ≡ is_live self }
+    {
+        matches!(self, State::Live(_))
+    }
+}
+
+// The record of an order: what was asked, what became of it, and the pool that a sell draws on, 0 for a buy.
+#[derive(Clone, Copy, PartialEq, Eq, Debug, Default)]
+pub struct Order {
+    pub participant: u64,
+    pub account: u64,
+    pub code: u64,
+    pub side: Side,
+    pub price: u64,
+    pub shares: u64,
+    pub filled: u64,
+    pub returned: u64,
+    pub traded: u64,
+    pub pool: usize,
+    pub state: State,
+}
+
+// What a participant asks for: the account is 0 where none is named.
+#[derive(Clone, Copy, PartialEq, Eq, Debug)]
+pub struct Ask {
+    pub participant: u64,
+    pub account: u64,
+    pub code: u64,
+    pub side: Side,
+    pub price: u64,
+    pub shares: u64,
+}
+
+// What a call makes of an order: its record after the call, and by how much the balance of the quota rises.
+#[derive(Clone, Copy, PartialEq, Eq, Debug)]
+pub struct Outcome {
+    pub order: Order,
+    pub raise: u64,
+}
