@@ -58,6 +58,7 @@ most_small quantity.Holding = omega arith
 most_small quantity.Lines = omega arith
 most_small quantity.Link = omega arith
 most_small quantity.Price = omega arith
+most_small quantity.Shares = omega arith
 most_small quantity.TotalShares = omega arith
 most_small quantity.AnyNumber = omega arith
 

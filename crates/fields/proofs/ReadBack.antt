@@ -90,6 +90,14 @@ letter_found letter.End = refl
 letter_found letter.Step = refl
 letter_found letter.Notice = refl
 letter_found letter.Link = refl
+letter_found letter.Buy = refl
+letter_found letter.Sell = refl
+letter_found letter.Trade = refl
+letter_found letter.Return = refl
+letter_found letter.Confirm = refl
+letter_found letter.Decline = refl
+letter_found letter.Cancel = refl
+letter_found letter.Close = refl
 
 closing_is : (line : List ℕ) (n : ℕ) → 1 + 16 * n < length line → get_or line (1 + 16 * n) 0 ≡ 10 → closing line n ≡ Ok tt
 closing_is line n h z = grind (arith, nat_tests)

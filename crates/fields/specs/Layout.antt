@@ -57,7 +57,7 @@ day_letters = letter.Day ∷ (letter.Security ∷ (letter.Holding ∷ (letter.Ac
 
 -- The letters of the event part.
 abbrev pub event_letters : List Letter
-event_letters = letter.Step ∷ (letter.Notice ∷ (letter.Link ∷ []))
+event_letters = letter.Step ∷ (letter.Notice ∷ (letter.Link ∷ (letter.Buy ∷ (letter.Sell ∷ (letter.Trade ∷ (letter.Return ∷ (letter.Confirm ∷ (letter.Decline ∷ (letter.Cancel ∷ (letter.Close ∷ []))))))))))
 
 -- Each part's letters.
 abbrev pub letters_of : Part → List Letter

@@ -1,4 +1,6 @@
 ghost use Rattle.std.specs.Prelude.{◌≡◌, ◌+◌, ◌*◌, ◌<◌, ◌≤◌, length, Ok, Err, MatchResult, slice_index};
+ghost use Rattle.rules.specs.declared.letter.Letter.TheVariants as letters;
+ghost use Rattle.rules.specs.Sides.{by_side};
 ghost use Rattle.fields.specs.Layout.{FieldAt, MadeFrom, closing, opening, day_letters, event_letters, width_of};
 ghost use Rattle.fields.specs.declared.field.Field.{Field};
 ghost use Rattle.fields.specs.Lines.{day_letter_of, DayFieldsOf, event_letter_of, EventFieldsOf};
@@ -8,6 +10,7 @@ use super::fault::FieldFault;
 use super::field::Field;
 use rules::letter::Letter;
 use rules::refusal::Refusal;
+use rules::side::Side;
 use std::array::from_fn;
 
 // A line of the day part: its letter is the case, its fields are parts of the input.
@@ -58,6 +61,33 @@ pub enum EventLine<'a> {
     Link {
         state: Field<'a>,
     },
+    Ask {
+        side: Side,
+        participant: Field<'a>,
+        account: Field<'a>,
+        code: Field<'a>,
+        price: Field<'a>,
+        shares: Field<'a>,
+    },
+    Trade {
+        order: Field<'a>,
+        shares: Field<'a>,
+        price: Field<'a>,
+    },
+    Return {
+        order: Field<'a>,
+    },
+    Confirm {
+        order: Field<'a>,
+    },
+    Decline {
+        order: Field<'a>,
+    },
+    Cancel {
+        order: Field<'a>,
+        participant: Field<'a>,
+    },
+    Close,
 }
 
 const LENGTH: FieldFault = FieldFault {
@@ -158,8 +188,53 @@ impl<'a> EventLine<'a> {
                 let [state] = parts::<_, 1>(rest)?;
                 Ok(EventLine::Link { state })
             }
+            'B' => EventLine::ask(rest, Side::Buy),
+            'L' => EventLine::ask(rest, Side::Sell),
+            'T' => {
+                let [order, shares, price] = parts::<_, 3>(rest)?;
+                Ok(EventLine::Trade {
+                    order,
+                    shares,
+                    price,
+                })
+            }
+            'R' => {
+                let [order] = parts::<_, 1>(rest)?;
+                Ok(EventLine::Return { order })
+            }
+            'Y' => {
+                let [order] = parts::<_, 1>(rest)?;
+                Ok(EventLine::Confirm { order })
+            }
+            'N' => {
+                let [order] = parts::<_, 1>(rest)?;
+                Ok(EventLine::Decline { order })
+            }
+            'C' => {
+                let [order, participant] = parts::<_, 2>(rest)?;
+                Ok(EventLine::Cancel { order, participant })
+            }
+            'Z' => {
+                ended(rest, 0)?;
+                Ok(EventLine::Close)
+            }
             _ => Err(LETTER),
         }
+    }
+
+    // The line of an order of the side.
+    fn ask(line: &'a [u8], side: Side) -> Result<EventLine<'a>, FieldFault>
+        ensures { MatchResult result (λ l. (closing line.now 5 ≡ Ok tt) × (event_letter_of l ≡ by_side side letters.Buy letters.Sell) × EventFieldsOf line.now l) (λ f. closing line.now 5 ≡ Err f) }
+    {
+        let [participant, account, code, price, shares] = parts::<_, 5>(line)?;
+        Ok(EventLine::Ask {
+            side,
+            participant,
+            account,
+            code,
+            price,
+            shares,
+        })
     }
 }
 
