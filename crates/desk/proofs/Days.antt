@@ -1,52 +1,103 @@
 -- The answer to a day that is loaded, and to one that is refused.
-use Rattle.std.proofs.Common.{◌≡◌, ℕ, List, [], ◌++◌, Ok, Err, Result, String, string_bytes, sym, refl, ap, ◌∙◌, subst, rules}
+use Rattle.std.proofs.Common.{◌≡◌, ℕ, List, [], ◌++◌, length, Some, Ok, Err, Option, Result, String, string_bytes, sym, refl, ap, ◌∙◌, subst, append_assoc, rules}
 use Rattle.std.specs.declared.alloc.Global.{Global}
 use Rattle.rules.specs.declared.letter.Part.TheVariants as part
+use Rattle.tables.specs.Tables.{lines_of}
 use Rattle.fields.specs.declared.fault.DayFault.{DayFault}
 use Rattle.fields.specs.declared.fault.LineFault.{LineFault}
+use Rattle.fields.specs.declared.rest.Rest.{Rest}
 use Rattle.fields.specs.Faults.{day_at}
+use Rattle.registers.specs.Meaning.{Fresh}
+use Rattle.registers.specs.Registers.{account_meaning, participant_meaning}
+use Rattle.orders.specs.declared.order.Order.{Order}
 use Rattle.gate.specs.declared.day.LoadingDay.{LoadingDay}
+use Rattle.gate.specs.declared.figures.Figures.{Figures}
+use Rattle.gate.specs.Calls.{Call}
+use Rattle.gate.specs.Desks.{Desk}
+use Rattle.gate.specs.Opened.{OpenedBy, opened}
+use Rattle.history.specs.History.{Law, Ran, finding_of, no_call}
+use Rattle.history.proofs.Conserve.{conserved}
+use Rattle.dayfile.specs.declared.lent.Tables.{Tables}
 use Rattle.dayfile.specs.declared.loaded.Loaded.{Loaded}
 use Rattle.dayfile.specs.declared.plan.Counts.{Counts}
 use Rattle.dayfile.specs.DayPart.{Plan, day_part}
 use Rattle.dayfile.specs.Description.{Describes, Description, described, plan_of}
-use Rattle.tables.specs.Tables.{lines_of}
-use Rattle.dayfile.specs.declared.lent.Tables.{Tables}
 use Rattle.dayfile.specs.Loads.{Holds, Load, room_of}
 use Rattle.dayfile.proofs.Law.{day_written}
 use Rattle.desk.specs.declared.event.Link.TheVariants.{Up}
-use Rattle.desk.specs.Answered.{Answered}
-use Rattle.desk.specs.Events.{session}
-use Rattle.desk.specs.Output.{DayAnswer, answered, refused}
+use Rattle.desk.specs.Answered.{Ended, Reaches, Stopped, after_close}
+use Rattle.desk.specs.Effects.{Session, session}
+use Rattle.desk.specs.Output.{DayAnswer, answered, desk_over, morning, refused}
 use Rattle.desk.specs.Printed.{Appends, shown_fault}
+
+-- what is answered up to an accepted close, and then what follows it
+pub ended_late : (s : Session) (nr : ℕ) (rest : List ℕ) (last : Desk) (closing : Option Rest) (late : Rest) → closing ≡ Some late → (before out after : String Global) → Reaches s.desk last → Appends before out (λ text. Stopped s nr rest text last closing)
+    → string_bytes after ≡ string_bytes out ++ after_close late.line late.bytes.now → Appends before after (Ended s nr rest)
+ended_late s nr rest last closing late is before out after reaches made wrote = (
+  made.0 ++ after_close late.line late.bytes.now,
+  wrote ∙ ap (λ (t : List ℕ). t ++ after_close late.line late.bytes.now) made.1 ∙ append_assoc (string_bytes before) made.0 (after_close late.line late.bytes.now),
+  record { last = last; answers = subst (Stopped s nr rest made.0 last) is made.2; reaches = reaches },
+)
 
 same_plan : (r : Result Plan LineFault) (a b : Plan) → r ≡ Ok a → r ≡ Ok b → a ≡ b
 same_plan r a b p q = cc
 
--- the lines of the list are those of the day part
-listed : (input : List ℕ) (room : Counts) (after : Tables) (made : Plan) (d : Description) → day_part input room ≡ Ok made → Describes input room d → Holds d after → lines_of after.securities ≡ (described input made).securities
-listed input room after made d is describes holds =
+-- the description of an accepted day part is the one that is read
+read_back : (input : List ℕ) (room : Counts) (made : Plan) (d : Description) → day_part input room ≡ Ok made → Describes input room d → d ≡ described input made
+read_back input room made d is describes =
     let w = day_written input room d describes in
-    holds.securities ∙ ap (λ (x : Description). x.securities) (sym w.1) ∙ ap (λ (p : Plan). (described input p).securities) (same_plan (day_part input room) (plan_of d) made w.0 is)
+    sym w.1 ∙ ap (described input) (same_plan (day_part input room) (plan_of d) made w.0 is)
+
+-- the desk over tables that hold a description
+held : (figures : Figures) (t : Tables) (book : List Order) (d : Description) → Holds d t → desk_over figures t book ≡ morning figures d book
+held figures t book d h =
+    let s = h.securities in
+    let p = h.holdings in
+    let a = h.account_holdings in
+    let g = h.designations in
+    rw (s, p, a, g) refl
+
+-- the law of a history from a morning
+lawful : (figures : Figures) (market date quota : ℕ) (d : Description) (book : List Order) (last : Desk) (cs : List Call) → OpenedBy market date quota figures → Fresh (participant_meaning d.holdings) → Fresh (account_meaning d.account_holdings d.designations) → Ran (morning figures d book) last cs → Law (finding_of (morning figures d book)) quota cs last
+lawful figures market date quota d book last cs o fp fa ran =
+    let at : Ran (morning (opened figures.market date quota) d book) last cs = subst (λ (f : Figures). Ran (morning f d book) last cs) o.figures ran in
+    conserved last figures.market date quota d.securities (participant_meaning d.holdings) (account_meaning d.account_holdings d.designations) book fp fa cs at
 
 -- a day that is loaded is answered as its events are
-pub day_answered : (input : List ℕ) (before after : Tables) (l : Loaded) (text : List ℕ) → Load input before (Ok l) after → Answered (session l.day.figures (lines_of after.securities) Up) l.events.line l.events.bytes.now text → DayAnswer input (room_of before) text
-day_answered input before after l text load events =
+pub day_answered : (input : List ℕ) (before after : Tables) (l : Loaded) (book : List Order) (text : List ℕ) → Load input before (Ok l) after → Ended (session (desk_over l.day.figures after book) Up) l.events.line l.events.bytes.now text → DayAnswer input (room_of before) (length book) text
+day_answered input before after l book text load ended =
+    let figures = l.day.figures in
     let made = load.answers.0 in
     let begins = load.answers.2 in
     let d = load.described in
-    let lines = listed input (room_of before) after made d.0 load.answers.1 d.1 d.2 in
-    answered made l.day.figures text load.answers.1 begins.opened (rw (lines, begins.first_line, begins.events_begin) at events)
+    let same : d.0 ≡ described input made = read_back input (room_of before) made d.0 load.answers.1 d.1 in
+    let holds : Holds (described input made) after = subst (λ (x : Description). Holds x after) same d.2 in
+    let start : desk_over figures after book ≡ morning figures (described input made) book = held figures after book (described input made) holds in
+    let here = rw (start, begins.first_line, begins.events_begin) at ended in
+    let run = here.reaches (morning figures (described input made) book) [] no_call in
+    let fresh-p : Fresh (participant_meaning (described input made).holdings) = rw (← holds.holdings) holds.participants_fresh in
+    let fresh-a : Fresh (account_meaning (described input made).account_holdings (described input made).designations) = rw (← holds.account_holdings) holds.accounts_fresh in
+    answered made text load.answers.1 (record {
+      figures = figures;
+      book = book;
+      last = here.last;
+      calls = run.0;
+      opens = begins.opened;
+      rows = refl;
+      answers = here.answers;
+      history = run.1;
+      law = lawful figures made.opening.market made.opening.date made.opening.quota (described input made) book here.last run.0 begins.opened fresh-p fresh-a run.1;
+    })
 
 day_fault : (r : Result Plan LineFault) (fault : DayFault) → day_at part.Day r ≡ Err fault → (f : LineFault) × (r ≡ Err f) × (record { line = f; part = part.Day } ≡ fault)
 day_fault (Ok p) fault e = search rules
 day_fault (Err f) fault e = (f, refl, cc)
 
 -- a day that is refused is answered by its fault
-pub day_refused : (input : List ℕ) (before after : Tables) (day : LoadingDay) (fault : DayFault) → Load input before (Err (day, fault)) after → DayAnswer input (room_of before) (shown_fault fault)
-day_refused input before after day fault load =
+pub day_refused : (input : List ℕ) (before after : Tables) (day : LoadingDay) (fault : DayFault) (orders : ℕ) → Load input before (Err (day, fault)) after → DayAnswer input (room_of before) orders (shown_fault fault)
+day_refused input before after day fault orders load =
     let f = day_fault (day_part input (room_of before)) fault load.answers in
-    subst (λ (x : DayFault). DayAnswer input (room_of before) (shown_fault x)) f.2 (refused f.0 f.1)
+    subst (λ (x : DayFault). DayAnswer input (room_of before) orders (shown_fault x)) f.2 (refused f.0 f.1)
 
 -- what is written where nothing was
 pub from_nothing : (P : List ℕ → Type 0) (before after : String Global) → string_bytes before ≡ [] → Appends before after P → P (string_bytes after)

@@ -1,3 +1,5 @@
 pub mod Columns
+pub mod Lines
 pub mod Turns
+pub mod Reached
 pub mod Days

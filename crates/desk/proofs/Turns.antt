@@ -1,14 +1,18 @@
 -- One turn of the event loop.
-use Rattle.std.proofs.Common.{◌≡◌, ℕ, ◌+◌, ◌<◌, true, false, eqb, List, [], ◌∷◌, ◌++◌, length, get_or, drop, Ok, Err, Result, append_assoc, append-nil, refl, arith, rules, String, string_bytes}
+use Rattle.std.proofs.Common.{◌≡◌, ℕ, ◌+◌, ◌<◌, ◌≤◌, true, false, cond, eqb, leb, List, [], ◌∷◌, ◌++◌, length, get_or, drop, Ok, Err, Result, append_assoc, append-nil, refl, ap, ◌∙◌, arith, rules, String, string_bytes}
 use Rattle.std.specs.declared.alloc.Global.{Global}
+use Rattle.std.proofs.lemmas.Bool.{le-leb}
+use Rattle.rules.specs.declared.letter.Letter.{Letter}
 use Rattle.rules.specs.declared.letter.Part.TheVariants as part
 use Rattle.fields.specs.declared.fault.DayFault.{DayFault}
 use Rattle.fields.specs.declared.fault.FieldFault.{FieldFault}
 use Rattle.fields.specs.Faults.{day_at, line_at}
 use Rattle.fields.specs.Layout.{width_of}
+use Rattle.gate.specs.Desks.{Desk}
 use Rattle.desk.specs.declared.event.Event.{Event}
-use Rattle.desk.specs.Answered.{Answered, event_answer, faulty, next, over}
-use Rattle.desk.specs.Events.{Session, after_event, event_letter, event_of}
+use Rattle.desk.specs.Answered.{Answered, after_close, closing, event_answer, faulty, next, over}
+use Rattle.desk.specs.Effects.{Session, after_event, closes}
+use Rattle.desk.specs.Events.{event_letter, event_of}
 use Rattle.desk.specs.Printed.{Appends, shown_fault}
 
 -- the event, or the fault, behind the letter, the line and the part
@@ -20,9 +24,13 @@ event_err : (r : Result Event FieldFault) (b nr : ℕ) (fault : DayFault) → Er
 event_err (Ok x) b nr fault q = search rules
 event_err (Err f) b nr fault q = search rules
 
+-- a line that is there is passed, and counted
+pub counted_on : (l : Letter) (e : Event) (bytes : List ℕ) (nr nr' : ℕ) → l ≡ event_letter e → width_of (event_letter e) ≤ length bytes → nr' ≡ cond (leb (width_of l) (length bytes)) (nr + 1) nr → nr' ≡ nr + 1
+counted_on l e bytes nr nr' same long n = n ∙ ap (λ b. cond b (nr + 1) nr) (ap (λ x. leb (width_of x) (length bytes)) same ∙ le-leb (width_of (event_letter e)) (length bytes) long)
+
 -- what is answered so far goes on to what is answered in the end
 abbrev pub Goes : Session → ℕ → List ℕ → List ℕ → Session → ℕ → List ℕ → Type 0
-Goes s₀ nr₀ rest₀ text s nr rest = (more : List ℕ) → Answered s nr rest more → Answered s₀ nr₀ rest₀ (text ++ more)
+Goes s₀ nr₀ rest₀ text s nr rest = (more : List ℕ) (last : Desk) → Answered s nr rest more last → Answered s₀ nr₀ rest₀ (text ++ more) last
 
 -- what is written behind a text that was written behind another
 behind : (before out after : String Global) (text more : List ℕ) → string_bytes out ≡ string_bytes before ++ text → string_bytes after ≡ string_bytes out ++ more → string_bytes after ≡ string_bytes before ++ (text ++ more)
@@ -37,22 +45,30 @@ none_left [] e = refl
 none_left (b ∷ bs) e = grind arith
 
 module _ (s₀ : Session) (nr₀ : ℕ) (rest₀ : List ℕ) (s : Session) (nr : ℕ) (rest : List ℕ) (before out : String Global) (so_far : Appends before out (λ text. Goes s₀ nr₀ rest₀ text s nr rest)) where
-  pub one_more : (e : Event) (s' : Session) (nr' : ℕ) (rest' : List ℕ) (after : String Global) → Ok e ≡ day_at part.Event (line_at (get_or rest 0 0) nr (event_of rest)) → s' ≡ after_event s e → nr' ≡ nr + 1 → rest' ≡ drop (width_of (event_letter e)) rest
-      → string_bytes after ≡ string_bytes out ++ event_answer s e → Appends before after (λ text. Goes s₀ nr₀ rest₀ text s' nr' rest')
-  one_more e s' nr' rest' after q a n r wrote = (
-    so_far.0 ++ event_answer s e,
-    behind before out after so_far.0 (event_answer s e) so_far.1 wrote,
-    λ more answered. rw (append_assoc so_far.0 (event_answer s e) more) (so_far.2 _ (next rest e more (event_ok _ _ nr e q) (rw (a, n, r) at answered))),
-  )
+  module _ (e : Event) (s' : Session) (nr' : ℕ) (rest' : List ℕ) (after : String Global) (q : Ok e ≡ day_at part.Event (line_at (get_or rest 0 0) nr (event_of rest))) (a : s' ≡ after_event s e) (n : nr' ≡ nr + 1) (r : rest' ≡ drop (width_of (event_letter e)) rest)
+      (wrote : string_bytes after ≡ string_bytes out ++ event_answer s e) where
+    pub one_more : closes s e ≡ false → Appends before after (λ text. Goes s₀ nr₀ rest₀ text s' nr' rest')
+    one_more stays = (
+      so_far.0 ++ event_answer s e,
+      behind before out after so_far.0 (event_answer s e) so_far.1 wrote,
+      λ more last answered. rw (append_assoc so_far.0 (event_answer s e) more) (so_far.2 _ last (next rest e more last (event_ok _ _ nr e q) stays (rw (a, n, r) at answered))),
+    )
+
+    pub at_close : closes s e ≡ true → Appends before after (λ text. Answered s₀ nr₀ rest₀ (text ++ after_close nr' rest') s'.desk)
+    at_close shuts = (
+      so_far.0 ++ event_answer s e,
+      behind before out after so_far.0 (event_answer s e) so_far.1 wrote,
+      rw (append_assoc so_far.0 (event_answer s e) (after_close nr' rest'), a, n, r) (so_far.2 _ _ (closing rest e (event_ok _ _ nr e q) shuts)),
+    )
 
   pub at_fault : (fault : DayFault) (after : String Global) → false ≡ eqb (length rest) 0 → Err fault ≡ day_at part.Event (line_at (get_or rest 0 0) nr (event_of rest))
-      → string_bytes after ≡ string_bytes out ++ shown_fault fault → Appends before after (Answered s₀ nr₀ rest₀)
+      → string_bytes after ≡ string_bytes out ++ shown_fault fault → Appends before after (λ text. Answered s₀ nr₀ rest₀ text s.desk)
   at_fault fault after some q wrote =
       let f = event_err (event_of rest) (get_or rest 0 0) nr fault q in (
         so_far.0 ++ shown_fault fault,
         behind before out after so_far.0 (shown_fault fault) so_far.1 wrote,
-        rw f.2 (so_far.2 _ (faulty rest f.0 (some_left rest some) f.1)),
+        rw f.2 (so_far.2 _ s.desk (faulty rest f.0 (some_left rest some) f.1)),
       )
 
-  pub at_end : true ≡ eqb (length rest) 0 → Appends before out (Answered s₀ nr₀ rest₀)
-  at_end e = (so_far.0, so_far.1, rw append-nil at (so_far.2 [] (rw (none_left rest e) over)))
+  pub at_end : true ≡ eqb (length rest) 0 → Appends before out (λ text. Answered s₀ nr₀ rest₀ text s.desk)
+  at_end e = (so_far.0, so_far.1, rw append-nil at (so_far.2 [] s.desk (rw (none_left rest e) over)))

@@ -1,22 +1,24 @@
 -- Events: how a line says one, and what it does.
-use Rattle.std.specs.Prelude.{ℕ, List, [], ◌∷◌, None, Ok, Err, Option, Result, slice_index}
+use Rattle.std.specs.Prelude.{ℕ, List, [], ◌∷◌, Ok, Err, Option, Result, slice_index}
 use Rattle.rules.specs.declared.letter.Letter.{Letter}
 use Rattle.rules.specs.declared.letter.Letter.TheVariants as letter
-use Rattle.rules.specs.declared.refusal.Refusal.{Refusal}
+use Rattle.rules.specs.declared.range.Quantity.TheVariants as quantity
 use Rattle.rules.specs.declared.refusal.Refusal.TheVariants as refusal
+use Rattle.rules.specs.declared.side.Side.{Side}
+use Rattle.rules.specs.declared.side.Side.TheVariants.{Buy, Sell}
 use Rattle.rules.specs.Cases.{numbered}
 use Rattle.rules.specs.Letters.{letter_rules}
-use Rattle.rules.specs.Rules.{kept_or}
-use Rattle.tables.specs.declared.rows.Security.{Security}
+use Rattle.rules.specs.Sides.{by_side}
 use Rattle.fields.specs.declared.fault.FieldFault.{FieldFault}
+use Rattle.fields.specs.declared.field.Field.{Field}
+use Rattle.fields.specs.declared.line.EventLine.{EventLine}
+use Rattle.fields.specs.declared.line.EventLine.TheVariants as line
 use Rattle.fields.specs.Faults.{and_then}
 use Rattle.fields.specs.Layout.{opening, event_letters}
 use Rattle.fields.specs.Numbers.{numbers_from}
-use Rattle.gate.specs.declared.figures.Figures.{Figures}
-use Rattle.gate.specs.Calls.{Desk, Call, desk, step, notice, refusal_of, accepted}
+use Rattle.fields.specs.Reading.{ranging}
+use Rattle.orders.specs.declared.order.Ask.{Ask}
 use Rattle.dayfile.specs.Rows.{named_case}
-use Rattle.tables.specs.Tables.{lines_of}
-use Rattle.desk.specs.declared.session.Session.{Session as Open}
 use Rattle.desk.specs.declared.event.Link.{Link}
 use Rattle.desk.specs.declared.event.Link.TheVariants.{Down, Up}
 use Rattle.desk.specs.declared.event.Event.{Event}
@@ -35,11 +37,23 @@ link_numbered = numbered link_number (Down ∷ (Up ∷ []))
 abbrev pub no_event : Result Event FieldFault
 no_event = Err (record { cause = refusal.Letter; column = 1 })
 
+-- An ask of a side: participant, account, code, price and shares.
+abbrev pub ask_of : Side → ℕ → ℕ → ℕ → ℕ → ℕ → Ask
+ask_of side participant account code price shares = record { participant = participant; account = account; code = code; side = side; price = price; shares = shares }
+
 -- The event of a letter and its numbers; a letter of the day part makes none.
 abbrev pub event_made : Letter → List ℕ → Result Event FieldFault
 event_made letter.Step ns = Ok event.Step
 event_made letter.Notice ns = Ok (event.Notice (slice_index ns 0) (slice_index ns 1) (slice_index ns 2))
 event_made letter.Link ns = and_then (named_case 2 (link_numbered (slice_index ns 0))) (λ state. Ok (event.Link state))
+event_made letter.Buy ns = Ok (event.Ask (ask_of Buy (slice_index ns 0) (slice_index ns 1) (slice_index ns 2) (slice_index ns 3) (slice_index ns 4)))
+event_made letter.Sell ns = Ok (event.Ask (ask_of Sell (slice_index ns 0) (slice_index ns 1) (slice_index ns 2) (slice_index ns 3) (slice_index ns 4)))
+event_made letter.Trade ns = Ok (event.Trade (slice_index ns 0) (slice_index ns 1) (slice_index ns 2))
+event_made letter.Return ns = Ok (event.Return (slice_index ns 0))
+event_made letter.Confirm ns = Ok (event.Confirm (slice_index ns 0))
+event_made letter.Decline ns = Ok (event.Decline (slice_index ns 0))
+event_made letter.Cancel ns = Ok (event.Cancel (slice_index ns 0) (slice_index ns 1))
+event_made letter.Close ns = Ok event.Close
 event_made letter.Day ns = no_event
 event_made letter.Security ns = no_event
 event_made letter.Holding ns = no_event
@@ -56,32 +70,40 @@ abbrev pub event_letter : Event → Letter
 event_letter event.Step = letter.Step
 event_letter (event.Notice code foreign total) = letter.Notice
 event_letter (event.Link state) = letter.Link
+event_letter (event.Ask ask) = by_side ask.side letter.Buy letter.Sell
+event_letter (event.Trade order shares price) = letter.Trade
+event_letter (event.Return order) = letter.Return
+event_letter (event.Confirm order) = letter.Confirm
+event_letter (event.Decline order) = letter.Decline
+event_letter (event.Cancel order participant) = letter.Cancel
+event_letter event.Close = letter.Close
 
--- What the events work on: the day's desk, and the link to the market.
-pub record Session : Type 0 where
-  pub desk : Desk
-  pub link : Link
+-- A field's number, which may be any.
+abbrev pub any_number : Field → Result ℕ FieldFault
+any_number f = ranging quantity.AnyNumber f.bytes.now f.column
 
--- A session of its parts.
-abbrev pub session : Figures → List Security → Link → Session
-session figures list link = record { desk = desk figures list; link = link }
+-- The ask of five fields, judged from the left.
+abbrev pub ask_read : Side → Field → Field → Field → Field → Field → Result Ask FieldFault
+ask_read side participant account code price shares =
+    and_then (any_number participant) (λ p.
+    and_then (any_number account) (λ a.
+    and_then (any_number code) (λ c.
+    and_then (any_number price) (λ q.
+    and_then (any_number shares) (λ n. Ok (ask_of side p a c q n))))))
 
--- The session that the events work on, as its day, its securities and its link stand.
-abbrev pub session_of : Open → Session
-session_of s = session s.day.figures (lines_of s.list.now) s.link
+-- The state of the link that a field says.
+abbrev pub link_read : Field → Result Link FieldFault
+link_read f = and_then (ranging quantity.Link f.bytes.now f.column) (λ n. named_case 2 (link_numbered n))
 
--- The desk after a call on it, accepted or refused.
-abbrev pub called : Desk → Call → Desk
-called d c = kept_or (refusal_of d c) d (accepted d c)
-
--- What an event is refused by, if it is.
-abbrev pub event_refusal : Session → Event → Option Refusal
-event_refusal s event.Step = refusal_of s.desk step
-event_refusal s (event.Notice code foreign total) = refusal_of s.desk (notice code foreign total)
-event_refusal s (event.Link state) = None
-
--- The session after an event.
-abbrev pub after_event : Session → Event → Session
-after_event s event.Step = record { desk = called s.desk step; link = s.link }
-after_event s (event.Notice code foreign total) = record { desk = called s.desk (notice code foreign total); link = s.link }
-after_event s (event.Link state) = record { desk = s.desk; link = state }
+-- The event of a line's fields, judged from the left.
+abbrev pub event_in : EventLine → Result Event FieldFault
+event_in line.Step = Ok event.Step
+event_in (line.Notice a b c) = and_then (any_number a) (λ n. and_then (any_number b) (λ f. and_then (any_number c) (λ t. Ok (event.Notice n f t))))
+event_in (line.Link a) = and_then (link_read a) (λ state. Ok (event.Link state))
+event_in (line.Ask side a b c d e) = and_then (ask_read side a b c d e) (λ ask. Ok (event.Ask ask))
+event_in (line.Trade a b c) = and_then (any_number a) (λ n. and_then (any_number b) (λ k. and_then (any_number c) (λ q. Ok (event.Trade n k q))))
+event_in (line.Return a) = and_then (any_number a) (λ n. Ok (event.Return n))
+event_in (line.Confirm a) = and_then (any_number a) (λ n. Ok (event.Confirm n))
+event_in (line.Decline a) = and_then (any_number a) (λ n. Ok (event.Decline n))
+event_in (line.Cancel a b) = and_then (any_number a) (λ n. and_then (any_number b) (λ p. Ok (event.Cancel n p)))
+event_in line.Close = Ok event.Close

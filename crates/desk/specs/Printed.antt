@@ -1,5 +1,5 @@
 -- The lines that are printed, in the input's own layout.
-use Rattle.std.specs.Prelude.{◌≡◌, ℕ, List, [], ◌∷◌, ◌++◌, ℤ, Some, None, Option, String, string_bytes}
+use Rattle.std.specs.Prelude.{◌≡◌, ℕ, List, [], ◌∷◌, ◌++◌, ℤ, Ok, Err, Result, String, string_bytes}
 use Rattle.std.specs.Fmt.{signed_decimal}
 use Rattle.std.specs.declared.alloc.Global.{Global}
 use Rattle.rules.specs.declared.letter.Letter.{Letter}
@@ -13,18 +13,23 @@ use Rattle.desk.specs.declared.printing.Fault.{Fault}
 use Rattle.desk.specs.declared.printing.Fault.TheVariants as fault
 
 -- A refusal's number, 0 where there is none.
-abbrev pub refusal_shown : Option Refusal → ℕ
-refusal_shown (Some e) = refusal_number e
-refusal_shown None = 0
+abbrev pub refusal_shown : Result ℕ Refusal → ℕ
+refusal_shown (Ok n) = 0
+refusal_shown (Err e) = refusal_number e
+
+-- The number of an order, 0 where there is a refusal.
+abbrev pub order_shown : Result ℕ Refusal → ℕ
+order_shown (Ok n) = n
+order_shown (Err e) = 0
 
 -- A signed number in sixteen columns: a minus stands straight before the digits.
 abbrev pub signed_columns : ℤ → List ℕ
 signed_columns z = columned 16 (signed_decimal z)
 
 -- An event's line: its letter, the refusal or 0, the order's number or 0, the balance.
-abbrev pub event_line : Letter → Option Refusal → ℕ → ℤ → List ℕ
-event_line l refusal order balance =
-    (letter_rules l).byte ∷ (in_columns 16 (refusal_shown refusal) ++ (in_columns 16 order ++ (signed_columns balance ++ (10 ∷ []))))
+abbrev pub event_line : Letter → Result ℕ Refusal → ℤ → List ℕ
+event_line l shows balance =
+    (letter_rules l).byte ∷ (in_columns 16 (refusal_shown shows) ++ (in_columns 16 (order_shown shows) ++ (signed_columns balance ++ (10 ∷ []))))
 
 -- A fault's line: an exclamation mark, the cause, the column, the letter's byte, the line, the part.
 abbrev pub fault_line : ℕ → ℕ → ℕ → ℕ → ℕ → List ℕ

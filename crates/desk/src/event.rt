@@ -1,10 +1,13 @@
 ghost use Rattle.std.specs.Prelude.{◌≡◌};
 ghost use Rattle.std.specs.Option.{ok_or};
 ghost use Rattle.rules.specs.declared.refusal.Refusal.TheVariants as refusal;
+ghost use Rattle.desk.specs.Effects.{closed_by};
 ghost use Rattle.desk.specs.Events.{event_letter, link_numbered};
 
+use orders::order::Ask;
 use rules::letter::Letter;
 use rules::refusal::Refusal;
+use rules::side::Side;
 
 // Whether the link to the market is up.
 #[derive(Clone, Copy, PartialEq, Eq, Debug)]
@@ -34,6 +37,13 @@ pub enum Event {
     Step,
     Notice { code: u64, foreign: u64, total: u64 },
     Link { state: Link },
+    Ask { ask: Ask },
+    Trade { order: u64, shares: u64, price: u64 },
+    Return { order: u64 },
+    Confirm { order: u64 },
+    Decline { order: u64 },
+    Cancel { order: u64, participant: u64 },
+    Close,
 }
 
 impl Event {
@@ -45,6 +55,23 @@ impl Event {
             Event::Step => Letter::Step,
             Event::Notice { .. } => Letter::Notice,
             Event::Link { .. } => Letter::Link,
+            Event::Ask { ask } => match ask.side {
+                Side::Buy => Letter::Buy,
+                Side::Sell => Letter::Sell,
+            },
+            Event::Trade { .. } => Letter::Trade,
+            Event::Return { .. } => Letter::Return,
+            Event::Confirm { .. } => Letter::Confirm,
+            Event::Decline { .. } => Letter::Decline,
+            Event::Cancel { .. } => Letter::Cancel,
+            Event::Close => Letter::Close,
         }
+    }
+
+    // Whether the event, answered so, has closed the day.
+    pub(crate) fn has_closed(self, answer: Result<u64, Refusal>) -> bool
+        ensures { result ≡ closed_by self answer }
+    {
+        matches!(self, Event::Close) && answer.is_ok()
     }
 }

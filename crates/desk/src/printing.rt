@@ -6,27 +6,25 @@ use rules::letter::Letter;
 use rules::refusal::Refusal;
 use std::fmt;
 
-// What an event is answered with; an event that has no order has the number 0.
+// What an event is answered with: the number of its order, 0 where it has none, or its refusal; and the balance after it.
 #[derive(Clone, Copy)]
 pub(crate) struct EventAnswer {
     pub(crate) letter: Letter,
-    pub(crate) refusal: Option<Refusal>,
-    pub(crate) order: u64,
+    pub(crate) shows: Result<u64, Refusal>,
     pub(crate) balance: i64,
 }
 
 // The event's line.
 impl fmt::Display for EventAnswer {
-    ghost output = { λ a. Some (event_line a.letter a.refusal a.order a.balance) };
+    ghost output = { λ a. Some (event_line a.letter a.shows a.balance) };
 
     fn fmt<W: fmt::Write>(&self, f: &mut fmt::Formatter<W>) -> fmt::Result {
         let letter = self.letter.byte() as char;
-        let refusal = self.refusal.map_or(0, Refusal::number);
-        writeln!(
-            f,
-            "{letter}{refusal:>16}{:>16}{:>16}",
-            self.order, self.balance
-        )
+        let (refusal, order) = match self.shows {
+            Ok(order) => (0, order),
+            Err(refusal) => (refusal.number(), 0),
+        };
+        writeln!(f, "{letter}{refusal:>16}{order:>16}{:>16}", self.balance)
     }
 }
 

@@ -2,42 +2,119 @@ ghost use Rattle.std.specs.Prelude.{◌≡◌, ◌≤◌, length, IfOk, slice_in
 ghost use Rattle.rules.specs.declared.letter.Part.TheVariants as part;
 ghost use Rattle.fields.specs.Faults.{day_at, line_at};
 ghost use Rattle.fields.specs.Layout.{width_of};
-ghost use Rattle.desk.specs.Events.{event_letter, event_of};
+ghost use Rattle.fields.specs.Lines.{event_letter_of};
+ghost use Rattle.desk.specs.Answered.{event_fault, late_fault};
+ghost use Rattle.desk.specs.Events.{any_number, ask_read, event_in, event_letter, event_of, link_read};
 
 use super::event::{Event, Link};
 use fields::fault::{DayFault, FieldFault, LineFault};
+use fields::field::Field;
 use fields::line::{EventLine, first_byte};
 use fields::rest::Rest;
+use orders::order::Ask;
 use rules::letter::Part;
 use rules::range::Quantity;
+use rules::refusal::Refusal;
+use rules::side::Side;
+
+// A field's number, which may be any.
+fn any_number(field: Field) -> Result<u64, FieldFault>
+    ensures { result ≡ any_number field.entry }
+{
+    field.ranged(Quantity::AnyNumber)
+}
+
+// The ask of five fields, judged from the left.
+fn ask(
+    side: Side,
+    participant: Field,
+    account: Field,
+    code: Field,
+    price: Field,
+    shares: Field,
+) -> Result<Ask, FieldFault>
+    ensures is { result ≡ ask_read side participant.entry account.entry code.entry price.entry shares.entry }
+    ensures same { IfOk result (λ a. a.side ≡ side) }
+{
+    Ok(Ask {
+        participant: any_number(participant)?,
+        account: any_number(account)?,
+        code: any_number(code)?,
+        side,
+        price: any_number(price)?,
+        shares: any_number(shares)?,
+    })
+}
+
+// The state of the link that a field says.
+fn link(field: Field) -> Result<Link, FieldFault>
+    ensures { result ≡ link_read field.entry }
+{
+    let n = field.ranged(Quantity::Link)?;
+    Link::try_from(n).map_err(|cause| FieldFault { cause, column: 2 })
+}
+
+// The event of a line's fields, judged from the left.
+fn event_in(line: EventLine) -> Result<Event, FieldFault>
+    ensures is { result ≡ event_in line.entry }
+    ensures letter { IfOk result (λ e. event_letter e ≡ event_letter_of line.entry) }
+{
+    Ok(match line {
+        EventLine::Step => Event::Step,
+        EventLine::Notice {
+            code,
+            foreign,
+            total,
+        } => Event::Notice {
+            code: any_number(code)?,
+            foreign: any_number(foreign)?,
+            total: any_number(total)?,
+        },
+        EventLine::Link { state } => Event::Link {
+            state: link(state)?,
+        },
+        EventLine::Ask {
+            side,
+            participant,
+            account,
+            code,
+            price,
+            shares,
+        } => Event::Ask {
+            ask: ask(side, participant, account, code, price, shares)?,
+        },
+        EventLine::Trade {
+            order,
+            shares,
+            price,
+        } => Event::Trade {
+            order: any_number(order)?,
+            shares: any_number(shares)?,
+            price: any_number(price)?,
+        },
+        EventLine::Return { order } => Event::Return {
+            order: any_number(order)?,
+        },
+        EventLine::Confirm { order } => Event::Confirm {
+            order: any_number(order)?,
+        },
+        EventLine::Decline { order } => Event::Decline {
+            order: any_number(order)?,
+        },
+        EventLine::Cancel { order, participant } => Event::Cancel {
+            order: any_number(order)?,
+            participant: any_number(participant)?,
+        },
+        EventLine::Close => Event::Close,
+    })
+}
 
 // The event that the input goes on with.
 fn event(rest: &[u8]) -> Result<Event, FieldFault>
     ensures is { result ≡ event_of rest.now }
     ensures long { IfOk result (λ e. width_of (event_letter e) ≤ length rest.now) }
 {
-    match EventLine::cut(rest)? {
-        EventLine::Step => Ok(Event::Step),
-        EventLine::Notice {
-            code,
-            foreign,
-            total,
-        } => {
-            let code = code.ranged(Quantity::AnyNumber)?;
-            let foreign = foreign.ranged(Quantity::AnyNumber)?;
-            let total = total.ranged(Quantity::AnyNumber)?;
-            Ok(Event::Notice {
-                code,
-                foreign,
-                total,
-            })
-        }
-        EventLine::Link { state } => {
-            let n = state.ranged(Quantity::Link)?;
-            let state = Link::try_from(n).map_err(|cause| FieldFault { cause, column: 2 })?;
-            Ok(Event::Link { state })
-        }
-    }
+    event_in(EventLine::cut(rest)?)
 }
 
 // The event in the first line of what is left.
@@ -57,4 +134,25 @@ pub(crate) fn read_event(rest: &Rest) -> Result<Event, DayFault>
 {
     let event = line_event(rest).map_err(|f| (f, Part::Event))?;
     Ok(event)
+}
+
+// The fault of a line after an accepted close: its own, or else that it is out of sequence.
+fn late_field(rest: &[u8]) -> FieldFault
+    ensures { result ≡ late_fault (event_of rest.now) }
+{
+    match event(rest) {
+        Ok(_) => FieldFault {
+            cause: Refusal::Sequence,
+            column: 1,
+        },
+        Err(fault) => fault,
+    }
+}
+
+// The fault of the first line of what follows an accepted close, beside its letter, number and part.
+pub(crate) fn late_fault(rest: &Rest) -> DayFault
+    ensures { result ≡ event_fault rest.now.bytes.now rest.now.line (late_fault (event_of rest.now.bytes.now)) }
+{
+    let fault = LineFault::from((late_field(rest.bytes), first_byte(rest.bytes), rest.line));
+    DayFault::from((fault, Part::Event))
 }

@@ -1,4 +1,4 @@
-use Rattle.desk.specs.Output.{Output, judged, program_room, too_long}
+use Rattle.desk.specs.Output.{Output, judged, program_orders, program_room, too_long}
 use Rattle.desk.specs.Printed.{printed_fault}
 use Rattle.desk.specs.declared.printing.Fault.TheVariants as fault
 use Rattle.desk.proofs.Days.{from_nothing}
@@ -7,7 +7,7 @@ use Rattle.desk.proofs.output.output.Goals.{then-input-gt-MOST_INPUT+in_ok-write
 
 pub returns : goal.returns
 returns c = rw c.into_bytes.ensures.value
-    (from_nothing (Output c.args.input.now program_room) c.new-out.result c.if-input-gt-MOST_INPUT.out c.new-out.ensures.bytes
+    (from_nothing (Output c.args.input.now program_room program_orders) c.new-out.result c.if-input-gt-MOST_INPUT.out c.new-out.ensures.bytes
     (elim c.if-input-gt-MOST_INPUT.branch [
       | then-input-gt-MOST_INPUT+in_ok-write w ↦ rw w.out-is (printed_fault fault.TooLong, w.in_ok-write.ensures.bytes, too_long w.if-input-gt-MOST_INPUT.true)
       | else-input-gt-MOST_INPUT+in_ok-answer_day w ↦ let done = w.in_ok-answer_day.ensures in rw w.out-is (done.0, done.1, judged done.0 w.if-input-gt-MOST_INPUT.false done.2)
