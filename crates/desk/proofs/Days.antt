@@ -1,5 +1,5 @@
 -- The answer to a day that is loaded, and to one that is refused.
-use Rattle.std.proofs.Common.{◌≡◌, ℕ, List, [], ◌++◌, length, Some, Ok, Err, Option, Result, String, string_bytes, sym, refl, ap, ◌∙◌, subst, append_assoc, rules}
+use Rattle.std.proofs.Common.{◌≡◌, ℕ, List, [], ◌++◌, length, Some, None, Ok, Err, Option, Result, String, string_bytes, sym, refl, ap, ◌∙◌, subst, append_assoc, append-nil, rules}
 use Rattle.std.specs.declared.alloc.Global.{Global}
 use Rattle.rules.specs.declared.letter.Part.TheVariants as part
 use Rattle.tables.specs.Tables.{lines_of}
@@ -25,18 +25,23 @@ use Rattle.dayfile.specs.Description.{Describes, Description, described, plan_of
 use Rattle.dayfile.specs.Loads.{Holds, Load, room_of}
 use Rattle.dayfile.proofs.Law.{day_written}
 use Rattle.desk.specs.declared.event.Link.TheVariants.{Up}
-use Rattle.desk.specs.Answered.{Ended, Reaches, Stopped, after_close}
+use Rattle.desk.specs.Answered.{Ended, Reaches, Stopped, late_answer}
 use Rattle.desk.specs.Effects.{Session, session}
 use Rattle.desk.specs.Output.{DayAnswer, answered, desk_over, morning, refused}
 use Rattle.desk.specs.Printed.{Appends, shown_fault}
 
--- what is answered up to an accepted close, and then what follows it
-pub ended_late : (s : Session) (nr : ℕ) (rest : List ℕ) (last : Desk) (closing : Option Rest) (late : Rest) → closing ≡ Some late → (before out after : String Global) → Reaches s.desk last → Appends before out (λ text. Stopped s nr rest text last closing)
-    → string_bytes after ≡ string_bytes out ++ after_close late.line late.bytes.now → Appends before after (Ended s nr rest)
-ended_late s nr rest last closing late is before out after reaches made wrote = (
-  made.0 ++ after_close late.line late.bytes.now,
-  wrote ∙ ap (λ (t : List ℕ). t ++ after_close late.line late.bytes.now) made.1 ∙ append_assoc (string_bytes before) made.0 (after_close late.line late.bytes.now),
-  record { last = last; answers = subst (Stopped s nr rest made.0 last) is made.2; reaches = reaches },
+-- what is answered up to an accepted close or the end, and then what is printed last
+pub ended : (s : Session) (nr : ℕ) (rest : List ℕ) (last : Desk) (closing : Option Rest) (before out after : String Global) → Reaches s.desk last → Appends before out (λ text. Stopped s nr rest text last closing)
+    → string_bytes after ≡ string_bytes out ++ late_answer closing → Appends before after (Ended s nr rest)
+ended s nr rest last None before out after reaches made wrote = (
+  made.0,
+  rw append-nil at wrote ∙ made.1,
+  record { last = last; answers = made.2; reaches = reaches },
+)
+ended s nr rest last (Some late) before out after reaches made wrote = (
+  made.0 ++ late_answer (Some late),
+  wrote ∙ ap (λ (t : List ℕ). t ++ late_answer (Some late)) made.1 ∙ append_assoc (string_bytes before) made.0 (late_answer (Some late)),
+  record { last = last; answers = made.2; reaches = reaches },
 )
 
 same_plan : (r : Result Plan LineFault) (a b : Plan) → r ≡ Ok a → r ≡ Ok b → a ≡ b

@@ -43,10 +43,15 @@ pub data Answered : Session → ℕ → List ℕ → List ℕ → Desk → Type 
   next : {s : Session} {nr : ℕ} (rest : List ℕ) (e : Event) (more : List ℕ) (last : Desk) → event_of rest ≡ Ok e → closes s e ≡ false → Answered (after_event s e) (nr + 1) (drop (width_of (event_letter e)) rest) more last → Answered s nr rest (event_answer s e ++ more) last
   closing : {s : Session} {nr : ℕ} (rest : List ℕ) (e : Event) → event_of rest ≡ Ok e → closes s e ≡ true → Answered s nr rest (event_answer s e ++ after_close (nr + 1) (drop (width_of (event_letter e)) rest)) (effect s e).desk
 
+-- What is printed after the events: nothing, or the answer to what follows an accepted close.
+abbrev pub late_answer : Option Rest → List ℕ
+late_answer None = []
+late_answer (Some late) = after_close late.line late.bytes.now
+
 -- The text answers the rest of the input, or all of it but what follows an accepted close.
 abbrev pub Stopped : Session → ℕ → List ℕ → List ℕ → Desk → Option Rest → Type 0
 Stopped s nr rest text last None = Answered s nr rest text last
-Stopped s nr rest text last (Some late) = Answered s nr rest (text ++ after_close late.line late.bytes.now) last
+Stopped s nr rest text last (Some late) = Answered s nr rest (text ++ late_answer (Some late)) last
 
 -- Each history that led to the one desk goes on to the other.
 abbrev pub Reaches : Desk → Desk → Type 0

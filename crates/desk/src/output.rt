@@ -1,7 +1,7 @@
 ghost use Rattle.std.specs.Prelude.{◌≡◌, ◌++◌, length, IfOk, vec_len, OnOk, string_bytes};
 ghost use Rattle.dayfile.specs.Loads.{room_of};
 ghost use Rattle.desk.specs.declared.event.Link.TheVariants.{Up};
-ghost use Rattle.desk.specs.Answered.{Ended, after_close};
+ghost use Rattle.desk.specs.Answered.{Ended, after_close, late_answer};
 ghost use Rattle.desk.specs.Effects.{session};
 ghost use Rattle.desk.specs.Output.{DayAnswer, Output, desk_over, program_orders, program_room};
 ghost use Rattle.desk.specs.Printed.{Appends};
@@ -35,7 +35,7 @@ const ROWS: usize = 256;
 const ORDERS: usize = 512;
 
 // Closes a day that may be closed; one that may not is left where it stands.
-fn end_day<P: Register, A: Register>(
+fn close_day<P: Register, A: Register>(
     day: TradingDay,
     list: &SecurityList,
     participants: &P,
@@ -58,6 +58,30 @@ fn answer_late(late: &Rest, out: &mut String) -> Result<(), AllocError>
         return Ok(());
     }
     write!(out, "{}", Fault::Day(late_fault(late)))
+}
+
+// Ends a day whose events are answered: closes it, and answers what follows the close, or leaves it where it stands.
+fn end_day<P: Register, A: Register>(
+    closing: Option<Rest>,
+    day: TradingDay,
+    list: &SecurityList,
+    participants: &P,
+    accounts: &A,
+    book: &[Order],
+    out: &mut String,
+) -> Result<(), AllocError>
+    ensures { OnOk result (string_bytes out.new ≡ string_bytes out.old ++ late_answer closing.entry) }
+{
+    match closing {
+        Some(late) => {
+            close_day(day, list, participants, accounts, book);
+            answer_late(&late, out)
+        }
+        None => {
+            day.leave();
+            Ok(())
+        }
+    }
 }
 
 // Answers a day that is loaded, over registers of its holdings.
@@ -96,16 +120,7 @@ fn answer_loaded(
         link: _,
     } = session;
     match answered {
-        Ok(closing) => match closing {
-            Some(late) => {
-                end_day(day, list, &participants, &accounts, book);
-                answer_late(&late, out)
-            }
-            None => {
-                day.leave();
-                Ok(())
-            }
-        },
+        Ok(closing) => end_day(closing, day, list, &participants, &accounts, book, out),
         Err(error) => {
             day.leave();
             Err(error)
