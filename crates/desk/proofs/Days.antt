@@ -2,7 +2,6 @@
 use Rattle.std.proofs.Common.{◌≡◌, ℕ, List, [], ◌++◌, length, Some, None, Ok, Err, Option, Result, String, string_bytes, sym, refl, ap, ◌∙◌, subst, append_assoc, append-nil, rules}
 use Rattle.std.specs.declared.alloc.Global.{Global}
 use Rattle.rules.specs.declared.letter.Part.TheVariants as part
-use Rattle.tables.specs.Tables.{lines_of}
 use Rattle.fields.specs.declared.fault.DayFault.{DayFault}
 use Rattle.fields.specs.declared.fault.LineFault.{LineFault}
 use Rattle.fields.specs.declared.rest.Rest.{Rest}

@@ -122,10 +122,7 @@ impl<P: Register, A: Register> Session<'_, '_, P, A> {
                 .day
                 .cancel(self.book, order, participant)
                 .map(|()| order),
-            Event::Close => match self.closing_refusal() {
-                Some(refusal) => Err(refusal),
-                None => Ok(0),
-            },
+            Event::Close => self.closing_refusal().map_or(Ok(0), Err),
         }
     }
 
