@@ -4,6 +4,8 @@
 #[cfg(test)]
 mod answering;
 #[cfg(test)]
+mod cutting;
+#[cfg(test)]
 mod day_calls;
 #[cfg(test)]
 mod loading;
