@@ -6,10 +6,10 @@ ghost use Rattle.gate.specs.Desks.{line_of};
 ghost use Rattle.gate.specs.Reserves.{asked_rules, beyond_limits, buy_rules};
 
 use super::figures::Figures;
-use tables::rows::Security;
 use orders::order::Ask;
 use rules::range::Quantity;
 use rules::refusal::Refusal;
+use tables::rows::Security;
 use tables::table::SecurityList;
 
 // A day takes so many orders at the most.

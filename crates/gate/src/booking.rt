@@ -13,11 +13,11 @@ use super::balance::{lowered, settle};
 use super::day::TradingDay;
 use super::figures::Figures;
 use super::pass::Pass;
-use tables::rows::Security;
 use orders::order::{Ask, Order};
 use registers::Register;
 use rules::refusal::Refusal;
 use rules::side::Side;
+use tables::rows::Security;
 use tables::table::SecurityList;
 
 // Finds the pool of a sell, and draws its shares.

@@ -10,7 +10,7 @@ ghost use Rattle.gate.specs.Calls.{confirm as a_confirm, give_back as a_return};
 use super::balance::{is_too_high, raised};
 use super::day::TradingDay;
 use super::figures::Figures;
-use super::numbering::has_no_record;
+use super::numbering::place_of;
 use orders::order::Order;
 use registers::Register;
 use rules::refusal::Refusal;
@@ -60,10 +60,7 @@ impl TradingDay {
         ensures { (list : List a_security) → Did (desk self.old.figures list (P.Register.meaning participants.old) (A.Register.meaning accounts.old) book.old) (a_return number) (refusal_in result) (desk self.new.figures list (P.Register.meaning participants.new) (A.Register.meaning accounts.new) book.new) }
     {
         let f = self.figures;
-        if has_no_record(f, book.len(), number) {
-            return Err(Refusal::Order);
-        }
-        let place = (number - 1) as usize;
+        let place = place_of(f, book, number)?;
         let order = book[place];
         let ended = order.give_back()?;
         put_back(f, participants, accounts, order, ended.raise)?;
@@ -83,10 +80,7 @@ impl TradingDay {
         ensures { (list : List a_security) → Did (desk self.old.figures list (P.Register.meaning participants.old) (A.Register.meaning accounts.old) book.old) (a_confirm number) (refusal_in result) (desk self.new.figures list (P.Register.meaning participants.new) (A.Register.meaning accounts.new) book.new) }
     {
         let f = self.figures;
-        if has_no_record(f, book.len(), number) {
-            return Err(Refusal::Order);
-        }
-        let place = (number - 1) as usize;
+        let place = place_of(f, book, number)?;
         let order = book[place];
         let ended = order.confirm()?;
         put_back(f, participants, accounts, order, ended.raise)?;

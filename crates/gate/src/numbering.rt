@@ -1,19 +1,39 @@
-ghost use Rattle.std.specs.Prelude.{◌≡◌, ◌||◌, ◌==◌, nat_lt};
+ghost use Rattle.std.specs.Prelude.{◌≡◌, ◌-◌, ◌<◌, [], ◌∷◌, IfOk, length};
+ghost use Rattle.rules.specs.declared.refusal.Refusal.TheVariants as refusal;
+ghost use Rattle.rules.specs.Rules.{first_broken, refusal_in, when};
 ghost use Rattle.gate.specs.Calls.{other_day};
+ghost use Rattle.gate.specs.Desks.{no_record};
 
 use super::figures::Figures;
 use super::pass::Pass;
+use orders::order::Order;
+use rules::refusal::Refusal;
 
-// Whether an order's number has no record among the day's.
-pub(super) fn has_no_record(f: Figures, length: usize, number: u64) -> bool
-    ensures { result ≡ (number == 0 || (nat_lt f.count number || nat_lt length number)) }
+// The place of the record of an order's number in the book.
+pub(super) fn place_of(f: Figures, book: &[Order], number: u64) -> Result<usize, Refusal>
+    ensures answer { refusal_in result ≡ when (no_record f book.now number) refusal.Order }
+    ensures place { IfOk result (λ place. place ≡ number - 1) }
+    ensures within { IfOk result (λ place. place < length book.now) }
 {
-    number == 0 || number > f.count || number > length as u64
+    if number == 0 || number > f.count || number > book.len() as u64 {
+        return Err(Refusal::Order);
+    }
+    Ok((number - 1) as usize)
 }
 
-// Whether a pass is of another market or date.
-pub(super) fn is_of_other_day(f: Figures, pass: &Pass) -> bool
-    ensures { result ≡ other_day f pass.now }
+// Uses a pass up, and answers the place of its order's record.
+pub(super) fn spend(f: Figures, book: &[Order], pass: Pass) -> Result<usize, Refusal>
+    ensures answer { refusal_in result ≡ first_broken (when (other_day f pass) refusal.Pass ∷ (when (no_record f book.now pass.number) refusal.Pass ∷ [])) }
+    ensures place { IfOk result (λ place. place ≡ pass.number - 1) }
+    ensures within { IfOk result (λ place. place < length book.now) }
 {
-    pass.market != f.market || pass.date != f.date
+    let Pass {
+        market,
+        date,
+        number,
+    } = pass;
+    if market != f.market || date != f.date {
+        return Err(Refusal::Pass);
+    }
+    place_of(f, book, number).or(Err(Refusal::Pass))
 }
