@@ -6,9 +6,8 @@ ghost use Rattle.gate.specs.Desks.{desk};
 ghost use Rattle.gate.specs.Calls.{Did};
 ghost use Rattle.gate.specs.Calls.{send as a_send, void as a_void};
 
-use super::balance::{raised, settle};
+use super::balance::settle;
 use super::day::TradingDay;
-use super::ending::put_back;
 use super::numbering::spend;
 use super::pass::Pass;
 use orders::order::Order;
@@ -37,13 +36,9 @@ impl TradingDay {
     ) -> Result<(), Refusal>
         ensures { (list : List a_security) → Did (desk self.old.figures list (P.Register.meaning participants.old) (A.Register.meaning accounts.old) book.old) (a_void pass) (refusal_in result) (desk self.new.figures list (P.Register.meaning participants.new) (A.Register.meaning accounts.new) book.new) }
     {
-        let f = self.figures;
-        let place = spend(f, book, pass)?;
-        let order = book[place];
+        let place = spend(self.figures, book, pass)?;
+        let order = &mut book[place];
         let ended = order.void()?;
-        put_back(f, participants, accounts, order, ended.raise)?;
-        book[place] = ended.order;
-        self.figures = raised(f, ended.raise);
-        Ok(())
+        self.finish(participants, accounts, order, ended)
     }
 }

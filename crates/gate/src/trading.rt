@@ -6,7 +6,7 @@ ghost use Rattle.gate.specs.Desks.{desk};
 ghost use Rattle.gate.specs.Calls.{Did};
 ghost use Rattle.gate.specs.Calls.{trade as a_trade};
 
-use super::balance::{is_too_high, raised};
+use super::balance::raised;
 use super::day::TradingDay;
 use super::numbering::place_of;
 use orders::order::Order;
@@ -26,11 +26,8 @@ impl TradingDay {
         let f = self.figures;
         let place = place_of(f, book, number)?;
         let filled = book[place].fill(shares, price)?;
-        if is_too_high(f, filled.raise) {
-            return Err(Refusal::Unsound);
-        }
+        self.figures = raised(f, filled.raise)?;
         book[place] = filled.order;
-        self.figures = raised(f, filled.raise);
         Ok(())
     }
 }
