@@ -1,7 +1,8 @@
-ghost use Rattle.std.specs.Prelude.{◌≡◌, true, IfOk, IfSome, Some};
+ghost use Rattle.std.specs.Prelude.{◌≡◌, ◌<◌, true, IfOk, IfSome, Some};
 ghost use Rattle.rules.specs.Rules.{first_broken, refusal_in};
 ghost use Rattle.tables.specs.Tables.{lines_of};
 ghost use Rattle.tables.specs.Rows.{security_present};
+ghost use Rattle.gate.specs.Balances.{most_orders};
 ghost use Rattle.gate.specs.Desks.{line_of};
 ghost use Rattle.gate.specs.Reserves.{asked_rules, beyond_limits, buy_rules};
 
@@ -41,6 +42,7 @@ pub(super) fn security_for(
     ensures answer { refusal_in result ≡ first_broken (asked_rules f (line_of (lines_of list.now) ask.code) room ask) }
     ensures line { IfOk result (λ s. line_of (lines_of list.now) ask.code ≡ Some s) }
     ensures present { IfOk result (λ s. security_present s ≡ true) }
+    ensures few { IfOk result (λ s. f.count < most_orders) }
 {
     if !f.phase.takes_orders() {
         return Err(Refusal::Hours);

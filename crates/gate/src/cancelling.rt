@@ -23,7 +23,7 @@ impl TradingDay {
         ensures { (list : List a_security) (p a : Meaning) → Did (desk self.old.figures list p a book.old) (a_cancel number participant) (refusal_in result) (desk self.new.figures list p a book.new) }
     {
         let f = self.figures;
-        let place = place_of(f, book, number)?;
+        let place = place_of(f, book, number, Refusal::Order)?;
         let asked = book[place].ask_cancel(participant)?;
         if !f.phase.cancels() {
             return Err(Refusal::NoCancel);
@@ -38,7 +38,7 @@ impl TradingDay {
         ensures { (list : List a_security) (p a : Meaning) → Did (desk self.old.figures list p a book.old) (a_decline number) (refusal_in result) (desk self.new.figures list p a book.new) }
     {
         let f = self.figures;
-        let place = place_of(f, book, number)?;
+        let place = place_of(f, book, number, Refusal::Order)?;
         book[place] = book[place].decline()?;
         self.figures = settle(f);
         Ok(())

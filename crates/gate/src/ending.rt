@@ -69,7 +69,7 @@ impl TradingDay {
     ) -> Result<(), Refusal>
         ensures { (list : List a_security) → Did (desk self.old.figures list (P.Register.meaning participants.old) (A.Register.meaning accounts.old) book.old) (a_return number) (refusal_in result) (desk self.new.figures list (P.Register.meaning participants.new) (A.Register.meaning accounts.new) book.new) }
     {
-        let place = place_of(self.figures, book, number)?;
+        let place = place_of(self.figures, book, number, Refusal::Order)?;
         let order = &mut book[place];
         let ended = order.give_back()?;
         self.finish(participants, accounts, order, ended)
@@ -85,7 +85,7 @@ impl TradingDay {
     ) -> Result<(), Refusal>
         ensures { (list : List a_security) → Did (desk self.old.figures list (P.Register.meaning participants.old) (A.Register.meaning accounts.old) book.old) (a_confirm number) (refusal_in result) (desk self.new.figures list (P.Register.meaning participants.new) (A.Register.meaning accounts.new) book.new) }
     {
-        let place = place_of(self.figures, book, number)?;
+        let place = place_of(self.figures, book, number, Refusal::Order)?;
         let order = &mut book[place];
         let ended = order.confirm()?;
         self.finish(participants, accounts, order, ended)

@@ -8,7 +8,7 @@ ghost use Rattle.gate.specs.Calls.{send as a_send, void as a_void};
 
 use super::balance::settle;
 use super::day::TradingDay;
-use super::numbering::spend;
+use super::numbering::{place_of, spend};
 use super::pass::Pass;
 use orders::order::Order;
 use registers::Register;
@@ -20,7 +20,8 @@ impl TradingDay {
         ensures { (list : List a_security) (p a : Meaning) → Did (desk self.old.figures list p a book.old) (a_send pass) (refusal_in result) (desk self.new.figures list p a book.new) }
     {
         let f = self.figures;
-        let place = spend(f, book, pass)?;
+        let number = spend(f, pass)?;
+        let place = place_of(f, book, number, Refusal::Pass)?;
         book[place] = book[place].send()?;
         self.figures = settle(f);
         Ok(())
@@ -36,7 +37,8 @@ impl TradingDay {
     ) -> Result<(), Refusal>
         ensures { (list : List a_security) → Did (desk self.old.figures list (P.Register.meaning participants.old) (A.Register.meaning accounts.old) book.old) (a_void pass) (refusal_in result) (desk self.new.figures list (P.Register.meaning participants.new) (A.Register.meaning accounts.new) book.new) }
     {
-        let place = spend(self.figures, book, pass)?;
+        let number = spend(self.figures, pass)?;
+        let place = place_of(self.figures, book, number, Refusal::Pass)?;
         let order = &mut book[place];
         let ended = order.void()?;
         self.finish(participants, accounts, order, ended)

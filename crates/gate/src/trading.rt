@@ -24,7 +24,7 @@ impl TradingDay {
         ensures { (list : List a_security) (p a : Meaning) → Did (desk self.old.figures list p a book.old) (a_trade number shares price) (refusal_in result) (desk self.new.figures list p a book.new) }
     {
         let f = self.figures;
-        let place = place_of(f, book, number)?;
+        let place = place_of(f, book, number, Refusal::Order)?;
         let filled = book[place].fill(shares, price)?;
         self.figures = raised(f, filled.raise)?;
         book[place] = filled.order;
