@@ -1,5 +1,5 @@
 -- How a day closes.
-use Rattle.std.specs.Prelude.{◌≡◌, ℕ, ◌<◌, Bool, true, false, not, ◌&&◌, List, [], ◌∷◌, length, get_or, take, Option, nat_lt, slice_index_or}
+use Rattle.std.specs.Prelude.{◌≡◌, ℕ, ◌<◌, Bool, true, false, not, List, [], ◌∷◌, length, get_or, take, Option, nat_lt, slice_index_or}
 use Rattle.std.specs.List.{list_all}
 use Rattle.rules.specs.declared.phase.Phase.{Phase}
 use Rattle.rules.specs.declared.phase.Phase.TheVariants.{OpeningCall, OpeningCallNoCancel, Continuous, ClosingCall, AfterHours}

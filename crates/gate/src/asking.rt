@@ -1,22 +1,23 @@
-ghost use Rattle.std.specs.Prelude.{◌≡◌, true, IfSome};
-ghost use Rattle.rules.specs.Rules.{first_broken};
+ghost use Rattle.std.specs.Prelude.{◌≡◌, ◌<◌, true, IfOk, IfSome, Some};
+ghost use Rattle.rules.specs.Rules.{first_broken, refusal_in};
 ghost use Rattle.tables.specs.Tables.{lines_of};
 ghost use Rattle.tables.specs.Rows.{security_present};
+ghost use Rattle.gate.specs.Balances.{most_orders};
 ghost use Rattle.gate.specs.Desks.{line_of};
 ghost use Rattle.gate.specs.Reserves.{asked_rules, beyond_limits, buy_rules};
 
 use super::figures::Figures;
-use tables::rows::Security;
 use orders::order::Ask;
 use rules::range::Quantity;
 use rules::refusal::Refusal;
+use tables::rows::Security;
 use tables::table::SecurityList;
 
 // A day takes so many orders at the most.
 const MOST_ORDERS: u64 = 50_000;
 
 // The line of a code, if it is listed.
-pub(super) fn line_of(list: &SecurityList, code: u64) -> Option<Security>
+fn line_of(list: &SecurityList, code: u64) -> Option<Security>
     ensures is { result ≡ line_of (lines_of list.now) code }
     ensures present { IfSome result (λ s. security_present s ≡ true) }
 {
@@ -31,50 +32,49 @@ fn is_beyond_limits(security: Security, price: u64) -> bool
     price < security.band.lowest(security.close) || price > security.band.highest(security.close)
 }
 
-// The first rule of every ask that is broken.
-pub(super) fn ask_fault(
+// The listed security of an ask that keeps the rules of every ask.
+pub(super) fn security_for(
     f: Figures,
-    security: Option<Security>,
+    list: &SecurityList,
     room: usize,
     ask: Ask,
-) -> Option<Refusal>
-    ensures { result ≡ first_broken (asked_rules f security room ask) }
+) -> Result<Security, Refusal>
+    ensures answer { refusal_in result ≡ first_broken (asked_rules f (line_of (lines_of list.now) ask.code) room ask) }
+    ensures line { IfOk result (λ s. line_of (lines_of list.now) ask.code ≡ Some s) }
+    ensures present { IfOk result (λ s. security_present s ≡ true) }
+    ensures few { IfOk result (λ s. f.count < most_orders) }
 {
     if !f.phase.takes_orders() {
-        return Some(Refusal::Hours);
+        return Err(Refusal::Hours);
     }
     if f.count >= room as u64 || f.count >= MOST_ORDERS {
-        return Some(Refusal::Full);
+        return Err(Refusal::Full);
     }
-    let Some(security) = security else {
-        return Some(Refusal::Code);
-    };
+    let security = line_of(list, ask.code).ok_or(Refusal::Code)?;
     if is_beyond_limits(security, ask.price) {
-        return Some(Refusal::Price);
+        return Err(Refusal::Price);
     }
     if !ask.side.lot().has(ask.shares) {
-        return Some(Refusal::Lot);
+        return Err(Refusal::Lot);
     }
     if !Quantity::Participant.has(ask.participant) {
-        return Some(Refusal::Account);
+        return Err(Refusal::Account);
     }
-    None
+    Ok(security)
 }
 
-// The first further rule of a buy that is broken.
-pub(super) fn buy_fault(f: Figures, security: Option<Security>, ask: Ask) -> Option<Refusal>
-    ensures { result ≡ first_broken (buy_rules f security ask) }
+// Whether a buy keeps the further rules of its side.
+pub(super) fn check_buy(f: Figures, security: Security, ask: Ask) -> Result<(), Refusal>
+    ensures { refusal_in result ≡ first_broken (buy_rules f (Some security) ask) }
 {
     if ask.account != 0 {
-        return Some(Refusal::Account);
+        return Err(Refusal::Account);
     }
-    if let Some(security) = security {
-        if let Some(refusal) = security.buying.refusal() {
-            return Some(refusal);
-        }
+    if let Some(refusal) = security.buying.refusal() {
+        return Err(refusal);
     }
     if f.shut || f.balance <= 0 {
-        return Some(Refusal::Quota);
+        return Err(Refusal::Quota);
     }
-    None
+    Ok(())
 }

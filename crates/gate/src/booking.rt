@@ -1,4 +1,4 @@
-ghost use Rattle.std.specs.Prelude.{◌≡◌, ◌+◌, ◌*◌, ◌<◌, ◌≤◌, true, false, pos, IfOk, int_le, unsigned_abs};
+ghost use Rattle.std.specs.Prelude.{◌≡◌, ◌+◌, ◌*◌, ◌<◌, ◌≤◌, true, false, pos, IfOk, Some, int_le, unsigned_abs};
 ghost use Rattle.rules.specs.Rules.{first_broken, kept_or, refusal_in};
 ghost use Rattle.rules.specs.Sides.{by_side};
 ghost use Rattle.tables.specs.Tables.{lines_of};
@@ -8,16 +8,16 @@ ghost use Rattle.gate.specs.Reserves.{accounts_drawn, drawn_for, found, or_zero,
 ghost use Rattle.gate.specs.Calls.{Did};
 ghost use Rattle.gate.specs.Calls.{reserve as a_reserve};
 
-use super::asking::{ask_fault, buy_fault, line_of};
+use super::asking::{check_buy, security_for};
 use super::balance::{lowered, settle};
 use super::day::TradingDay;
 use super::figures::Figures;
 use super::pass::Pass;
-use tables::rows::Security;
 use orders::order::{Ask, Order};
 use registers::Register;
 use rules::refusal::Refusal;
 use rules::side::Side;
+use tables::rows::Security;
 use tables::table::SecurityList;
 
 // Finds the pool of a sell, and draws its shares.
@@ -34,21 +34,18 @@ fn draw_for<R: Register>(register: &mut R, ask: Ask) -> Result<usize, Refusal>
 // Checks the further rules of an ask's side, and takes a sell's shares; answers the pool.
 fn take_for<P: Register, A: Register>(
     f: Figures,
-    security: Option<Security>,
+    security: Security,
     participants: &mut P,
     accounts: &mut A,
     ask: Ask,
 ) -> Result<usize, Refusal>
-    ensures answer { refusal_in result ≡ first_broken (side_faults f security (P.Register.meaning participants.old) (A.Register.meaning accounts.old) ask) }
+    ensures answer { refusal_in result ≡ first_broken (side_faults f (Some security) (P.Register.meaning participants.old) (A.Register.meaning accounts.old) ask) }
     ensures pool { IfOk result (λ k. k ≡ pool_for (by_account ask.account (P.Register.meaning participants.old) (A.Register.meaning accounts.old)) ask) }
     ensures participants { P.Register.meaning participants.new ≡ kept_or (refusal_in result) (P.Register.meaning participants.old) (participants_drawn (P.Register.meaning participants.old) ask) }
     ensures accounts { A.Register.meaning accounts.new ≡ kept_or (refusal_in result) (A.Register.meaning accounts.old) (accounts_drawn (A.Register.meaning accounts.old) ask) }
 {
     match ask.side {
-        Side::Buy => match buy_fault(f, security, ask) {
-            Some(refusal) => Err(refusal),
-            None => Ok(0),
-        },
+        Side::Buy => check_buy(f, security, ask).and(Ok(0)),
         Side::Sell if ask.account == 0 => draw_for(participants, ask),
         Side::Sell => draw_for(accounts, ask),
     }
@@ -89,10 +86,7 @@ impl TradingDay {
         ensures pass { IfOk result (λ pass. pass ≡ record { market = self.old.figures.market; date = self.old.figures.date; number = self.old.figures.count + 1 }) }
     {
         let f = self.figures;
-        let security = line_of(list, ask.code);
-        if let Some(refusal) = ask_fault(f, security, book.len(), ask) {
-            return Err(refusal);
-        }
+        let security = security_for(f, list, book.len(), ask)?;
         let pool = take_for(f, security, participants, accounts, ask)?;
         book[f.count as usize] = ask.held(pool);
         self.figures = reserved(f, ask);

@@ -8,7 +8,7 @@ ghost use Rattle.gate.specs.Calls.{cancel as a_cancel, decline as a_decline};
 
 use super::balance::settle;
 use super::day::TradingDay;
-use super::numbering::has_no_record;
+use super::numbering::place_of;
 use orders::order::Order;
 use rules::refusal::Refusal;
 
@@ -23,10 +23,7 @@ impl TradingDay {
         ensures { (list : List a_security) (p a : Meaning) → Did (desk self.old.figures list p a book.old) (a_cancel number participant) (refusal_in result) (desk self.new.figures list p a book.new) }
     {
         let f = self.figures;
-        if has_no_record(f, book.len(), number) {
-            return Err(Refusal::Order);
-        }
-        let place = (number - 1) as usize;
+        let place = place_of(f, book, number, Refusal::Order)?;
         let asked = book[place].ask_cancel(participant)?;
         if !f.phase.cancels() {
             return Err(Refusal::NoCancel);
@@ -41,10 +38,7 @@ impl TradingDay {
         ensures { (list : List a_security) (p a : Meaning) → Did (desk self.old.figures list p a book.old) (a_decline number) (refusal_in result) (desk self.new.figures list p a book.new) }
     {
         let f = self.figures;
-        if has_no_record(f, book.len(), number) {
-            return Err(Refusal::Order);
-        }
-        let place = (number - 1) as usize;
+        let place = place_of(f, book, number, Refusal::Order)?;
         book[place] = book[place].decline()?;
         self.figures = settle(f);
         Ok(())

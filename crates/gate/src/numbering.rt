@@ -1,19 +1,43 @@
-ghost use Rattle.std.specs.Prelude.{◌≡◌, ◌||◌, ◌==◌, nat_lt};
+ghost use Rattle.std.specs.Prelude.{◌≡◌, ◌-◌, ◌<◌, IfOk, length};
+ghost use Rattle.rules.specs.declared.refusal.Refusal.TheVariants as refusal;
+ghost use Rattle.rules.specs.Rules.{refusal_in, when};
 ghost use Rattle.gate.specs.Calls.{other_day};
+ghost use Rattle.gate.specs.Desks.{no_record};
 
 use super::figures::Figures;
 use super::pass::Pass;
+use orders::order::Order;
+use rules::refusal::Refusal;
 
-// Whether an order's number has no record among the day's.
-pub(super) fn has_no_record(f: Figures, length: usize, number: u64) -> bool
-    ensures { result ≡ (number == 0 || (nat_lt f.count number || nat_lt length number)) }
+// The place of the record of an order's number in the book, or the refusal where there is none.
+pub(super) fn place_of(
+    f: Figures,
+    book: &[Order],
+    number: u64,
+    otherwise: Refusal,
+) -> Result<usize, Refusal>
+    ensures answer { refusal_in result ≡ when (no_record f book.now number) otherwise }
+    ensures place { IfOk result (λ place. place ≡ number - 1) }
+    ensures within { IfOk result (λ place. place < length book.now) }
 {
-    number == 0 || number > f.count || number > length as u64
+    if number == 0 || number > f.count || number > book.len() as u64 {
+        return Err(otherwise);
+    }
+    Ok((number - 1) as usize)
 }
 
-// Whether a pass is of another market or date.
-pub(super) fn is_of_other_day(f: Figures, pass: &Pass) -> bool
-    ensures { result ≡ other_day f pass.now }
+// Uses a pass of this day up, and answers its order's number.
+pub(super) fn spend(f: Figures, pass: Pass) -> Result<u64, Refusal>
+    ensures answer { refusal_in result ≡ when (other_day f pass) refusal.Pass }
+    ensures number { IfOk result (λ number. number ≡ pass.number) }
 {
-    pass.market != f.market || pass.date != f.date
+    let Pass {
+        market,
+        date,
+        number,
+    } = pass;
+    if market != f.market || date != f.date {
+        return Err(Refusal::Pass);
+    }
+    Ok(number)
 }

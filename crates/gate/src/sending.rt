@@ -6,10 +6,9 @@ ghost use Rattle.gate.specs.Desks.{desk};
 ghost use Rattle.gate.specs.Calls.{Did};
 ghost use Rattle.gate.specs.Calls.{send as a_send, void as a_void};
 
-use super::balance::{raised, settle};
+use super::balance::settle;
 use super::day::TradingDay;
-use super::ending::put_back;
-use super::numbering::{has_no_record, is_of_other_day};
+use super::numbering::{place_of, spend};
 use super::pass::Pass;
 use orders::order::Order;
 use registers::Register;
@@ -21,16 +20,8 @@ impl TradingDay {
         ensures { (list : List a_security) (p a : Meaning) → Did (desk self.old.figures list p a book.old) (a_send pass) (refusal_in result) (desk self.new.figures list p a book.new) }
     {
         let f = self.figures;
-        let other = is_of_other_day(f, &pass);
-        let Pass {
-            market: _,
-            date: _,
-            number,
-        } = pass;
-        if other || has_no_record(f, book.len(), number) {
-            return Err(Refusal::Pass);
-        }
-        let place = (number - 1) as usize;
+        let number = spend(f, pass)?;
+        let place = place_of(f, book, number, Refusal::Pass)?;
         book[place] = book[place].send()?;
         self.figures = settle(f);
         Ok(())
@@ -46,22 +37,10 @@ impl TradingDay {
     ) -> Result<(), Refusal>
         ensures { (list : List a_security) → Did (desk self.old.figures list (P.Register.meaning participants.old) (A.Register.meaning accounts.old) book.old) (a_void pass) (refusal_in result) (desk self.new.figures list (P.Register.meaning participants.new) (A.Register.meaning accounts.new) book.new) }
     {
-        let f = self.figures;
-        let other = is_of_other_day(f, &pass);
-        let Pass {
-            market: _,
-            date: _,
-            number,
-        } = pass;
-        if other || has_no_record(f, book.len(), number) {
-            return Err(Refusal::Pass);
-        }
-        let place = (number - 1) as usize;
-        let order = book[place];
+        let number = spend(self.figures, pass)?;
+        let place = place_of(self.figures, book, number, Refusal::Pass)?;
+        let order = &mut book[place];
         let ended = order.void()?;
-        put_back(f, participants, accounts, order, ended.raise)?;
-        book[place] = ended.order;
-        self.figures = raised(f, ended.raise);
-        Ok(())
+        self.finish(participants, accounts, order, ended)
     }
 }

@@ -6,9 +6,9 @@ ghost use Rattle.gate.specs.Desks.{desk};
 ghost use Rattle.gate.specs.Calls.{Did};
 ghost use Rattle.gate.specs.Calls.{trade as a_trade};
 
-use super::balance::{is_too_high, raised};
+use super::balance::raised;
 use super::day::TradingDay;
-use super::numbering::has_no_record;
+use super::numbering::place_of;
 use orders::order::Order;
 use rules::refusal::Refusal;
 
@@ -24,16 +24,10 @@ impl TradingDay {
         ensures { (list : List a_security) (p a : Meaning) → Did (desk self.old.figures list p a book.old) (a_trade number shares price) (refusal_in result) (desk self.new.figures list p a book.new) }
     {
         let f = self.figures;
-        if has_no_record(f, book.len(), number) {
-            return Err(Refusal::Order);
-        }
-        let place = (number - 1) as usize;
+        let place = place_of(f, book, number, Refusal::Order)?;
         let filled = book[place].fill(shares, price)?;
-        if is_too_high(f, filled.raise) {
-            return Err(Refusal::Unsound);
-        }
+        self.figures = raised(f, filled.raise)?;
         book[place] = filled.order;
-        self.figures = raised(f, filled.raise);
         Ok(())
     }
 }

@@ -6,8 +6,5 @@ made-from : {X E : Type 0} (r : Result X E) (P : X → Type 0) (Q : E → Type 0
 made-from (Ok x) P Q R f h = f x h
 made-from (Err e) P Q R f h = tt
 
-pub returns : goal.returns
-returns g c = record {
-  answer = c.close.ensures;
-  law = made-from c.close.result _ _ _ (λ closed h. at_close _ h.2) c.close.ensures;
-}
+pub returns-clause-law : goal.returns-clause-law
+returns-clause-law g c = made-from c.close.result _ _ _ (λ closed h. at_close _ h.2) c.close.ensures

@@ -1,6 +1,5 @@
-use Rattle.std.proofs.Common.{rules}
 use Rattle.history.proofs.Worked.{worked}
 use Rattle.history.proofs.examples.examples_stand.Goals as goal
 
-pub returns : goal.returns
-returns c = record { limits = search rules; examples = worked }
+pub returns-clause-examples : goal.returns-clause-examples
+returns-clause-examples c = worked

@@ -1,7 +1,9 @@
-use Rattle.std.proofs.Common.{rules}
 use Rattle.history.proofs.Clearing.{at_close}
 use Rattle.history.proofs.Conserve.{conserved}
 use Rattle.history.proofs.law.history_is_conserved.Goals as goal
 
-pub returns : goal.returns
-returns c = record { answer = search rules; law = conserved; closing = at_close }
+pub returns-clause-law : goal.returns-clause-law
+returns-clause-law c = conserved
+
+pub returns-clause-closing : goal.returns-clause-closing
+returns-clause-closing c = at_close
