@@ -124,7 +124,7 @@ fn closed_after(steps: u8) -> Result<Figures, (Figures, Refusal)> {
     for _ in 0..steps {
         let _ = day.step();
     }
-    match day.close() {
+    match day.close(&[]) {
         Ok(closed) => Ok(closed.figures()),
         Err(back) => {
             let (day, refusal) = back;

@@ -4,12 +4,28 @@
 #[cfg(test)]
 mod answering;
 #[cfg(test)]
+mod bounds;
+#[cfg(test)]
+mod closing;
+#[cfg(test)]
 mod cutting;
 #[cfg(test)]
 mod day_calls;
 #[cfg(test)]
+mod in_flight;
+#[cfg(test)]
+mod law;
+#[cfg(test)]
 mod loading;
+#[cfg(test)]
+mod one_order;
 #[cfg(test)]
 mod pools;
 #[cfg(test)]
 mod prices;
+#[cfg(test)]
+mod records;
+#[cfg(test)]
+mod reserving;
+#[cfg(test)]
+mod turns;

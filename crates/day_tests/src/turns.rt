@@ -1,0 +1,261 @@
+use gate::day::{LoadingDay, TradingDay};
+use gate::figures::Figures;
+use history::closing::close;
+use history::reading::balance;
+use orders::order::{Ask, Order};
+use registers::Register;
+use registers::accounts::{AccountRegister, Designated};
+use registers::participants::{Own, ParticipantRegister};
+use rules::buying::Buying;
+use rules::price::PriceBand;
+use rules::refusal::Refusal;
+use rules::side::Side;
+use std::process::Abort;
+use std::test::Fail;
+use tables::owner::{Account, Participant};
+use tables::rows::{AccountHolding, Designation, ParticipantHolding, Security};
+use tables::table::{AccountHoldings, Designations, Holdings, SecurityList};
+
+// A call of a day with its arguments; an order that is taken is sent at once, or voided at once.
+#[derive(Clone, Copy, Debug)]
+pub(super) enum Call {
+    Send(Ask),
+    Void(Ask),
+    Trade(u64, u64, u64),
+    Return(u64),
+    Cancel(u64, u64),
+    Confirm(u64),
+    Decline(u64),
+    Step,
+    Notice(u64, u64, u64),
+}
+
+// What a call answers, a refusal's number or 0, and what it leaves: the balance, whether buying is shut, and how many
+// shares of the participant's and of the account's pool may still be sold.
+#[derive(Clone, Copy, PartialEq, Eq, Debug)]
+pub(super) struct Left {
+    answer: u64,
+    balance: i64,
+    shut: bool,
+    own: Option<u64>,
+    account: Option<u64>,
+}
+
+// A call, and what it has to answer and to leave.
+#[derive(Clone, Copy)]
+pub(super) struct Turn {
+    call: Call,
+    left: Left,
+}
+
+// A call that leaves buying open.
+pub(super) fn open(call: Call, answer: u64, balance: i64, own: u64, account: u64) -> Turn {
+    let left = Left {
+        answer,
+        balance,
+        shut: false,
+        own: Some(own),
+        account: Some(account),
+    };
+    Turn { call, left }
+}
+
+// A call that leaves buying shut.
+pub(super) fn shut(call: Call, answer: u64, balance: i64, own: u64, account: u64) -> Turn {
+    let turn = open(call, answer, balance, own, account);
+    Turn {
+        left: Left {
+            shut: true,
+            ..turn.left
+        },
+        ..turn
+    }
+}
+
+// Participant 101 asks for shares of security 600000.
+pub(super) fn ask(side: Side, price: u64, shares: u64) -> Ask {
+    Ask {
+        participant: 101,
+        account: 0,
+        code: 600_000,
+        side,
+        price,
+        shares,
+    }
+}
+
+// Participant 101 buys.
+pub(super) fn buy(price: u64, shares: u64) -> Call {
+    Call::Send(ask(Side::Buy, price, shares))
+}
+
+// Participant 101 sells shares of its own.
+pub(super) fn sell(price: u64, shares: u64) -> Call {
+    Call::Send(ask(Side::Sell, price, shares))
+}
+
+// Participant 102 sells shares of account 80000001.
+pub(super) fn sell_for_account(price: u64, shares: u64) -> Call {
+    Call::Send(Ask {
+        participant: 102,
+        account: 80_000_001,
+        ..ask(Side::Sell, price, shares)
+    })
+}
+
+// A security that closed at 10 yuan, and may leave that by ten percent.
+pub(super) fn security(code: u64, buying: Buying) -> Security {
+    Security {
+        code,
+        buying,
+        close: 1000,
+        band: PriceBand::Ten,
+    }
+}
+
+// What a participant holds at the opening.
+pub(super) fn own_shares(participant: u64, code: u64, shares: u64) -> ParticipantHolding {
+    ParticipantHolding {
+        owner: Participant(participant),
+        code,
+        opening: shares,
+        sellable: shares,
+    }
+}
+
+// What an account holds at the opening.
+pub(super) fn account_shares(account: u64, code: u64, shares: u64) -> AccountHolding {
+    AccountHolding {
+        owner: Account(account),
+        code,
+        opening: shares,
+        sellable: shares,
+    }
+}
+
+// A day of a market, a date and a quota in its first phase.
+pub(super) fn opened(market: u64, date: u64, quota: u64) -> Result<TradingDay, Refusal> {
+    match (LoadingDay {}).open(market, date, quota) {
+        Ok(day) => Ok(day),
+        Err(back) => {
+            let (LoadingDay {}, refusal) = back;
+            Err(refusal)
+        }
+    }
+}
+
+// Makes a call.
+fn make<P: Register, A: Register>(
+    day: &mut TradingDay,
+    list: &mut SecurityList,
+    participants: &mut P,
+    accounts: &mut A,
+    book: &mut [Order],
+    call: Call,
+) -> Result<(), Refusal> {
+    match call {
+        Call::Send(ask) => match day.reserve(list, participants, accounts, book, ask) {
+            Ok(pass) => day.send(book, pass),
+            Err(refusal) => Err(refusal),
+        },
+        Call::Void(ask) => match day.reserve(list, participants, accounts, book, ask) {
+            Ok(pass) => day.void(participants, accounts, book, pass),
+            Err(refusal) => Err(refusal),
+        },
+        Call::Trade(number, shares, price) => day.trade(book, number, shares, price),
+        Call::Return(number) => day.give_back(participants, accounts, book, number),
+        Call::Cancel(number, participant) => day.cancel(book, number, participant),
+        Call::Confirm(number) => day.confirm(participants, accounts, book, number),
+        Call::Decline(number) => day.decline(book, number),
+        Call::Step => day.step(),
+        Call::Notice(code, foreign, total) => day.notice(list, code, foreign, total),
+    }
+}
+
+// The number of a refusal; 0 where there is none.
+pub(super) fn number_of(answer: Result<(), Refusal>) -> u64 {
+    match answer {
+        Ok(()) => 0,
+        Err(refusal) => refusal.number(),
+    }
+}
+
+// Makes the calls one after another, and checks what each answers and leaves.
+fn play<P: Register, A: Register>(
+    rt: &impl Abort,
+    day: &mut TradingDay,
+    list: &mut SecurityList,
+    participants: &mut P,
+    accounts: &mut A,
+    book: &mut [Order],
+    turns: &[Turn],
+) {
+    for (place, turn) in turns.iter().enumerate() {
+        let answer = make(day, list, participants, accounts, book, turn.call);
+        let left = Left {
+            answer: number_of(answer),
+            balance: balance(day, list, participants, accounts, book),
+            shut: day.figures().shut,
+            own: participants.sellable(0),
+            account: accounts.sellable(0),
+        };
+        assert_eq!(rt; left, turn.left, "after the call at place {place}");
+    }
+}
+
+// How a day was left: its book, its figures, and why it could not be closed, if it could not.
+#[derive(Clone, Copy, PartialEq, Eq, Debug)]
+pub(super) struct Ended {
+    pub(super) book: [Order; 4],
+    pub(super) figures: Figures,
+    pub(super) closing: Option<Refusal>,
+}
+
+// Plays the calls on a day of a quota, on which participant 101 holds 500 shares and account 80000001 holds 300, and
+// then closes it.
+pub(super) fn played(rt: &impl Abort, quota: u64, turns: &[Turn]) -> Result<Ended, Fail> {
+    let mut securities = [security(600_000, Buying::Open)];
+    let mut list = SecurityList::over(&mut securities, 1);
+    let mut holdings = [own_shares(101, 600_000, 500)];
+    let mut held = Holdings::over(&mut holdings, 1);
+    let mut account_holdings = [account_shares(80_000_001, 600_000, 300)];
+    let mut held_in_accounts = AccountHoldings::over(&mut account_holdings, 1);
+    let mut named = [Designation {
+        account: 80_000_001,
+        participant: 102,
+    }];
+    let designations = Designations::over(&mut named, 1);
+    let mut participants = ParticipantRegister {
+        holdings: &mut held,
+        rule: Own,
+    };
+    let mut accounts = AccountRegister {
+        holdings: &mut held_in_accounts,
+        rule: Designated {
+            designations: &designations,
+        },
+    };
+    let mut book = [Order::default(); 4];
+    let mut day = opened(1, 20_190_215, quota)?;
+    play(
+        rt,
+        &mut day,
+        &mut list,
+        &mut participants,
+        &mut accounts,
+        &mut book,
+        turns,
+    );
+    let (figures, closing) = match close(day, &list, &participants, &accounts, &book) {
+        Ok(closed) => (closed.figures(), None),
+        Err(back) => {
+            let (day, refusal) = back;
+            (day.leave(), Some(refusal))
+        }
+    };
+    Ok(Ended {
+        book,
+        figures,
+        closing,
+    })
+}
