@@ -4,12 +4,13 @@ use Rattle.rules.specs.declared.market.Market.{Market}
 use Rattle.rules.specs.declared.refusal.Refusal.{Refusal}
 use Rattle.rules.specs.declared.side.Side.TheVariants.{Buy}
 use Rattle.rules.specs.Phases.{phase_rules}
+use Rattle.rules.specs.Rules.{kept_or}
 use Rattle.tables.specs.declared.rows.Security.{Security}
 use Rattle.registers.specs.declared.pool.Pool.{Pool}
 use Rattle.registers.specs.Meaning.{Fresh, Meaning, opening_of}
 use Rattle.orders.specs.declared.order.Ask.{Ask}
 use Rattle.orders.specs.declared.order.Order.{Order}
-use Rattle.gate.specs.Calls.{Call, Did, refusal_of, reserve}
+use Rattle.gate.specs.Calls.{Call, Did, accepted, refusal_of, reserve}
 use Rattle.gate.specs.Closed.{NothingInFlight}
 use Rattle.gate.specs.Desks.{Desk, desk}
 use Rattle.gate.specs.Opened.{opened}
@@ -33,6 +34,13 @@ noted (Some e) c cs = cs
 pub data Ran (d₀ : Desk) : Desk → List Call → Type 0 where
   no_call : Ran d₀ d₀ []
   one_more : {d : Desk} {cs : List Call} (d' : Desk) (c : Call) (answer : Option Refusal) → Ran d₀ d cs → Did d c answer d' → Ran d₀ d' (noted answer c cs)
+
+-- The steps of a history are the calls' contracts, and nothing else: each call takes one at every desk, with one answer and
+-- one desk after it, and whatever keeps a call's contract goes on with the history.
+pub record Stepwise : Type 0 where
+  pub taken : (d : Desk) (c : Call) → Did d c (refusal_of d c) (kept_or (refusal_of d c) d (accepted d c))
+  pub only : (d d' d'' : Desk) (c : Call) (answer answer' : Option Refusal) → Did d c answer d' → Did d c answer' d'' → (answer ≡ answer') × (d' ≡ d'')
+  pub goes_on : (d₀ d d' : Desk) (cs : List Call) (c : Call) (answer : Option Refusal) → Ran d₀ d cs → Did d c answer d' → Ran d₀ d' (noted answer c cs)
 
 -- A pool's opening shares are those that may still be sold, those reserved and those sold; where there is no pool, none are.
 abbrev pub Balanced : Option Pool → ℕ → ℕ → Type 0
