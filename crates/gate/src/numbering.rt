@@ -26,7 +26,7 @@ pub(super) fn place_of(
     Ok((number - 1) as usize)
 }
 
-// Uses a pass of this day up, and answers its order's number.
+// Uses a pass up, and answers its order's number if it is of this day.
 pub(super) fn spend(f: Figures, pass: Pass) -> Result<u64, Refusal>
     ensures answer { refusal_in result ≡ when (other_day f pass) refusal.Pass }
     ensures number { IfOk result (λ number. number ≡ pass.number) }

@@ -20,7 +20,7 @@ none_held b r e = rw e (cond_none b)
 
 sold_off : (o : Option Pool) (R T : ℕ) → R ≡ 0 → Balanced o R T → SoldOff o T
 sold_off (Some p) R T e h = omega arith
-sold_off None R T e h = tt
+sold_off None R T e h = h.1
 
 pub at_close : AtClose
 at_close d clear market date quota list p a book fp fa cs r =

@@ -33,6 +33,7 @@ use Rattle.gate.specs.Opened.{opened}
 use Rattle.gate.specs.Reserves.{after_reserve, asked_rules, buy_rules, buying_rule, drawn_for, found, or_zero, pool_for, sell_rules, side_faults}
 use Rattle.history.specs.History.{Balanced, BeenLow, Conserved, InEveryHistory, LowAfter, Ran, finding_of, no_call, noted, one_more, register_of}
 use Rattle.history.specs.Tally.{Entry, Finding, Holder, Tally, accounts, at_entry, bought, buy_reserved, entry_for, figure, holder_of, in_pool, moved, no_entry, participants, pool_found, released, same_holder, shares_reserved, shares_sold, sold, sum_of, tallied, tally}
+use Rattle.history.proofs.Openings.{ran_open}
 use Rattle.history.proofs.Registers.{both_same, changed, changed_finding, end_pool, named, register_named, reserve_pool, same_finding, same_pool}
 use Rattle.history.proofs.Sums.{cond_none, end_entry, figure_moved, reserve_figure, sum_push, sum_set, trade_entry}
 
@@ -285,14 +286,14 @@ holds_ran finds quota d₀ v (one_more {d} {cs} d' c answer r did) = holds_did f
 
 fresh_balanced : (o : Option Pool) → FreshPool o → Balanced o 0 0
 fresh_balanced (Some p) e = omega arith
-fresh_balanced None e = tt
+fresh_balanced None e = (refl, refl)
 
 each_fresh : (market : Market) (date quota : ℕ) (list : List Security) (p a : Meaning) (book : List Order) → Fresh p → Fresh a → (holder : Holder) (j : ℕ) → Balanced ((register_of (desk (opened market date quota) list p a book) holder).pools j) 0 0
 each_fresh market date quota list p a book fp fa participants j = fresh_balanced (p.pools j) (fp j)
 each_fresh market date quota list p a book fp fa accounts j = fresh_balanced (a.pools j) (fa j)
 
 -- desk and tally agree in every history
-pub agree : (d : Desk) → InEveryHistory Holds d
+pub agree : (d : Desk) → InEveryHistory (λ start. Holds (finding_of start)) d
 agree d market date quota list p a book fp fa cs r =
     let d₀ = desk (opened market date quota) list p a book in
     let start : Holds (finding_of d₀) quota [] d₀ = record {
@@ -345,6 +346,9 @@ conserved d market date quota list p a book fp fa cs r =
     let v = agree d market date quota list p a book fp fa cs r in
     record {
       balance = v.balance;
+      phase = v.phase;
+      orders = sym v.entries;
+      openings = ran_open (desk (opened market date quota) list p a book) r;
       pools = v.pools;
       shut_since = λ e. been_from finds quota cs (sym v.shut ∙ e);
       since_shut = λ h. v.shut ∙ been_to finds quota cs h.0 h.1 h.2;

@@ -1,5 +1,6 @@
 pub mod Sums
 pub mod Registers
+pub mod Openings
 pub mod Conserve
 pub mod Clearing
 pub mod Worked

@@ -22,7 +22,7 @@ use Rattle.history.proofs.Sums.{cond_none}
 -- shares that are no longer reserved but sold leave a pool balanced
 pub balanced_move : (o : Option Pool) (R T R' T' : ℕ) → R + T ≡ R' + T' → Balanced o R T → Balanced o R' T'
 balanced_move (Some p) R T R' T' e h = omega arith
-balanced_move None R T R' T' e h = tt
+balanced_move None R T R' T' e h = (omega (arith, h.0, h.1), omega (arith, h.0, h.1))
 
 tested : (b : Bool) (e : Refusal) → refusal_in {X = Unit {0}} (cond b (Ok tt) (Err e)) ≡ None → b ≡ true
 tested true e h = refl
@@ -32,11 +32,11 @@ drawn_pool : (o : Option Pool) (n R T : ℕ) → refusal_in (draw_in o n) ≡ No
 drawn_pool (Some p) n R T h e =
     let l = leb-true n p.sellable (tested (leb n p.sellable) ShortBalance h) in
     omega arith
-drawn_pool None n R T h e = tt
+drawn_pool None n R T h e = let z : ◌≡◌ {A = ℕ} 0 1 = cc in absurd (omega arith)
 
 restored_pool : (o : Option Pool) (n R R' T : ℕ) → R' + n ≡ R → Balanced o R T → Balanced (restored_in o n) R' T
 restored_pool (Some p) n R R' T q e = omega arith
-restored_pool None n R R' T q e = tt
+restored_pool None n R R' T q e = (omega (arith, e.0), e.1)
 
 -- the pool j after n shares were drawn from the pool k
 drawn_at : (m : Meaning) (k n j R T : ℕ) → refusal_in (draw_answer m k n) ≡ None → Balanced (m.pools j) R T → Balanced ((drawn m k n).pools j) (R + cond (eqb j k) n 0) T

@@ -20,6 +20,7 @@ worked = record {
   emptied = refl;
   refilled = refl;
   passes_again = refl;
+  emptied_later = refl;
   refilled_later = refl;
   refused_since = (refl, refl);
   not_yet_shut = refl;

@@ -87,6 +87,7 @@ pub record Examples : Type 0 where
   pub refilled : (after (day 100000) empty_and_refill).figures.balance ≡ pos 5000
   pub passes_again : Passes (after (day 100000) empty_and_refill) (buy 100)
   -- in continuous trading it does not
+  pub emptied_later : (after (day 100000) (step ∷ (step ∷ (buy 100 ∷ [])))).figures.balance ≡ pos 0
   pub refilled_later : (after (day 100000) (step ∷ (step ∷ empty_and_refill))).figures.balance ≡ pos 5000
   pub refused_since : Refused (after (day 100000) (step ∷ (step ∷ empty_and_refill))) (buy 100) refusal.Quota 12
   -- a balance of 0 shuts buying at the step into continuous trading, and not before
