@@ -13,8 +13,8 @@ use Rattle.gate.specs.declared.day.LoadingDay.{LoadingDay}
 use Rattle.gate.specs.declared.figures.Figures.{Figures}
 use Rattle.gate.specs.Calls.{Call}
 use Rattle.gate.specs.Desks.{Desk}
-use Rattle.gate.specs.Opened.{OpenedBy, opened}
-use Rattle.history.specs.History.{Law, Ran, finding_of, no_call}
+use Rattle.gate.specs.Opened.{OpenedBy}
+use Rattle.history.specs.History.{Law, Ran, no_call}
 use Rattle.history.proofs.Conserve.{conserved}
 use Rattle.dayfile.specs.declared.lent.Tables.{Tables}
 use Rattle.dayfile.specs.declared.loaded.Loaded.{Loaded}
@@ -62,10 +62,10 @@ held figures t book d h =
     rw (s, p, a, g) refl
 
 -- the law of a history from a morning
-lawful : (figures : Figures) (market date quota : ℕ) (d : Description) (book : List Order) (last : Desk) (cs : List Call) → OpenedBy market date quota figures → Fresh (participant_meaning d.holdings) → Fresh (account_meaning d.account_holdings d.designations) → Ran (morning figures d book) last cs → Law (finding_of (morning figures d book)) quota cs last
-lawful figures market date quota d book last cs o fp fa ran =
-    let at : Ran (morning (opened figures.market date quota) d book) last cs = subst (λ (f : Figures). Ran (morning f d book) last cs) o.figures ran in
-    conserved last figures.market date quota d.securities (participant_meaning d.holdings) (account_meaning d.account_holdings d.designations) book fp fa cs at
+lawful : (figures : Figures) (market date quota : ℕ) (d : Description) (book : List Order) (last : Desk) (cs : List Call) → OpenedBy market date quota figures → Fresh (participant_meaning d.holdings) → Fresh (account_meaning d.account_holdings d.designations) → Ran (morning figures d book) last cs → Law (morning figures d book) quota cs last
+lawful figures market date quota d book last cs o fp fa =
+    subst (λ (f : Figures). Ran (morning f d book) last cs → Law (morning f d book) quota cs last) (sym o.figures)
+    (conserved last figures.market date quota d.securities (participant_meaning d.holdings) (account_meaning d.account_holdings d.designations) book fp fa cs)
 
 -- a day that is loaded is answered as its events are
 pub day_answered : (input : List ℕ) (before after : Tables) (l : Loaded) (book : List Order) (text : List ℕ) → Load input before (Ok l) after → Ended (session (desk_over l.day.figures after book) Up) l.events.line l.events.bytes.now text → DayAnswer input (room_of before) (length book) text

@@ -11,7 +11,7 @@ use Rattle.gate.specs.declared.figures.Figures.{Figures}
 use Rattle.gate.specs.Calls.{Call}
 use Rattle.gate.specs.Desks.{Desk, desk}
 use Rattle.gate.specs.Opened.{OpenedBy}
-use Rattle.history.specs.History.{Law, Ran, finding_of}
+use Rattle.history.specs.History.{Law, Ran}
 use Rattle.dayfile.specs.declared.lent.Tables.{Tables}
 use Rattle.dayfile.specs.declared.plan.Counts.{Counts}
 use Rattle.dayfile.specs.DayPart.{Plan, counts, day_part}
@@ -52,7 +52,7 @@ pub record Day (input : List ℕ) (made : Plan) (orders : ℕ) (text : List ℕ)
   pub rows : length book ≡ orders
   pub answers : Answered (session (morning figures (described input made) book) Up) made.line (drop made.events input) text last
   pub history : Ran (morning figures (described input made) book) last calls
-  pub law : Law (finding_of (morning figures (described input made) book)) made.opening.quota calls last
+  pub law : Law (morning figures (described input made) book) made.opening.quota calls last
 
 -- The answer to a day part that fits the tables, and to its events: the fault of the day part, or the events' lines.
 pub data DayAnswer (input : List ℕ) (room : Counts) (orders : ℕ) : List ℕ → Type 0 where
