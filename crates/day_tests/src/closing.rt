@@ -41,24 +41,33 @@ fn a_day_is_closed_over_done_orders_alone(rt: HostRuntime) -> Result<(), Fail> {
     let returned = later(asked, 0, 100, 0, State::Done);
     let ended = later(unasked, 40, 60, 40_000, State::Done);
     let broken = later(unasked, 0, 101, 0, State::Done);
-    for (why, steps, book, answer) in [
-        ("both done", 4, [filled, returned], 0),
-        ("one traded and returned", 4, [ended, filled], 0),
-        ("one held", 4, [held(Side::Buy), filled], 21),
-        ("the first live", 4, [unasked, filled], 21),
-        ("the last live", 4, [returned, unasked], 21),
-        ("a cancel asked", 4, [asked, filled], 21),
-        ("one traded in part", 4, [filled, in_part], 21),
-        ("before the last phase", 3, [filled, returned], 21),
-        ("a broken record", 4, [filled, broken], 19),
-        ("one live, one broken", 4, [unasked, broken], 19),
-        ("one broken, and too early", 0, [broken, filled], 19),
+    for (why, steps, first, second, answer) in [
+        ("both done", 4, filled, returned, 0),
+        ("one traded and returned", 4, ended, filled, 0),
+        ("one held", 4, held(Side::Buy), filled, 21),
+        ("the first live", 4, unasked, filled, 21),
+        ("the last live", 4, returned, unasked, 21),
+        ("a cancel asked", 4, asked, filled, 21),
+        ("one traded in part", 4, filled, in_part, 21),
+        ("before the last phase", 3, filled, returned, 21),
+        ("a broken record", 4, filled, broken, 19),
+        ("one live, one broken", 4, unasked, broken, 19),
+        ("one broken, and too early", 0, broken, filled, 19),
     ] {
-        assert_eq!(rt; closed_over(steps, &book)?, (answer, true), "{why}");
+        let closed = closed_over(steps, &[first, second])?;
+        assert_eq!(rt; closed, (answer, true), "{why}");
     }
-    assert_eq!(rt; closed_over(4, &[filled])?, (19, true), "a short book");
-    assert_eq!(rt; closed_over(0, &[unasked])?, (19, true), "and too early");
-    let longer = [filled, returned, broken];
+    Ok(())
+}
+
+#[test]
+fn a_day_is_closed_over_a_book_that_has_its_orders(rt: HostRuntime) -> Result<(), Fail> {
+    let live_order = live(Side::Buy, Cancel::Unasked);
+    let done = later(live_order, 100, 0, 100_000, State::Done);
+    let broken = later(live_order, 0, 101, 0, State::Done);
+    assert_eq!(rt; closed_over(4, &[done])?, (19, true), "a short book");
+    assert_eq!(rt; closed_over(0, &[live_order])?, (19, true), "and too early");
+    let longer = [done, done, broken];
     assert_eq!(rt; closed_over(4, &longer)?, (0, true), "a row past the count");
     Ok(())
 }
