@@ -1,5 +1,5 @@
 use super::one_order::{Asked, answer, held, live, reserved, sent, trade, used};
-use super::turns::{ask, opened, own_shares, security};
+use super::turns::{opened, own_shares, request, security};
 use gate::day::TradingDay;
 use orders::order::{Cancel, Order};
 use registers::Register;
@@ -32,7 +32,7 @@ fn voided(day: &mut TradingDay) -> Result<u64, Refusal> {
     let made = reserved(
         &mut other,
         &mut [Order::default()],
-        ask(Side::Buy, 1000, 100),
+        request(Side::Buy, 1000, 100),
     );
     other.leave();
     Ok(used(day, &mut [held(Side::Buy)], made?, true))
@@ -45,7 +45,7 @@ fn the_balance_stays_within_its_bound(rt: HostRuntime) -> Result<(), Fail> {
     let taken = sent(
         &mut day,
         &mut [Order::default()],
-        ask(Side::Sell, 1000, 100),
+        request(Side::Sell, 1000, 100),
     );
     trade_often(&mut day, 999_000);
     let near = 999_999_001_000_000_000;
@@ -85,8 +85,8 @@ fn sell_over<P: Register, A: Register>(
     times: u64,
 ) -> (u64, Option<Refusal>) {
     for taken in 0..times {
-        let ask = ask(Side::Sell, 1000, 1);
-        let answer = match day.reserve(list, participants, accounts, book, ask) {
+        let request = request(Side::Sell, 1000, 1);
+        let answer = match day.reserve(list, participants, accounts, book, request) {
             Ok(pass) => day.send(book, pass),
             Err(refusal) => Err(refusal),
         };

@@ -1,5 +1,5 @@
 use super::one_order::{held, later, live, reserved, sent, used};
-use super::turns::{Call, ask, buy, open, opened, played, sell, sell_for_account};
+use super::turns::{Call, buy, open, opened, played, request, sell, sell_for_account};
 use gate::day::TradingDay;
 use gate::figures::Figures;
 use orders::order::{Cancel, Order, State};
@@ -14,8 +14,8 @@ use std::test::Fail;
 fn closed_over(steps: u8, book: &[Order]) -> Result<(u64, bool), Refusal> {
     let mut day = opened(1, 20_190_215, 1_000_000)?;
     let mut rows = [Order::default(); 2];
-    let first = sent(&mut day, &mut rows, ask(Side::Buy, 1000, 100));
-    let second = sent(&mut day, &mut rows, ask(Side::Buy, 1000, 100));
+    let first = sent(&mut day, &mut rows, request(Side::Buy, 1000, 100));
+    let second = sent(&mut day, &mut rows, request(Side::Buy, 1000, 100));
     for _ in 0..steps {
         let _ = day.step();
     }
@@ -75,7 +75,7 @@ fn a_day_is_closed_over_a_book_that_has_its_orders(rt: HostRuntime) -> Result<()
 // Tries to close a day that holds an order at the gate, voids the order, and tries again.
 fn refusals_of_a_held_order(day: &mut TradingDay) -> Result<[Option<Refusal>; 2], Refusal> {
     let mut book = [Order::default(); 1];
-    let pass = reserved(day, &mut book, ask(Side::Buy, 1000, 100))?;
+    let pass = reserved(day, &mut book, request(Side::Buy, 1000, 100))?;
     for _ in 0..4 {
         let _ = day.step();
     }
@@ -109,7 +109,7 @@ fn a_day_that_is_closed_leaves_each_order_done(rt: HostRuntime) -> Result<(), Fa
             open(buy(1000, 100), 0, 900_000, 500, 300),
             open(sell(1000, 500), 0, 900_000, 0, 300),
             open(sell_for_account(1000, 300), 0, 900_000, 0, 0),
-            open(Call::Void(ask(Side::Buy, 1000, 900)), 0, 900_000, 0, 0),
+            open(Call::Void(request(Side::Buy, 1000, 900)), 0, 900_000, 0, 0),
             open(sell(1000, 1), 2, 900_000, 0, 0),
             open(Call::Trade(1, 100, 990), 0, 901_000, 0, 0),
             open(Call::Trade(2, 200, 1010), 0, 1_103_000, 0, 0),

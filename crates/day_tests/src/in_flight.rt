@@ -1,4 +1,4 @@
-use super::turns::{Call, ask, buy, open, played, sell, sell_for_account, shut};
+use super::turns::{Call, buy, open, played, request, sell, sell_for_account, shut};
 use orders::order::{Cancel, Order, State};
 use rules::side::Side;
 use std::test::Fail;
@@ -126,8 +126,20 @@ fn a_voided_order_gives_back_all_that_it_took(rt: HostRuntime) -> Result<(), Fai
         &rt,
         250_000,
         &[
-            open(Call::Void(ask(Side::Buy, 1000, 200)), 0, 250_000, 500, 300),
-            open(Call::Void(ask(Side::Sell, 1000, 500)), 0, 250_000, 500, 300),
+            open(
+                Call::Void(request(Side::Buy, 1000, 200)),
+                0,
+                250_000,
+                500,
+                300,
+            ),
+            open(
+                Call::Void(request(Side::Sell, 1000, 500)),
+                0,
+                250_000,
+                500,
+                300,
+            ),
             open(Call::Trade(1, 100, 1000), 14, 250_000, 500, 300),
             open(Call::Return(2), 14, 250_000, 500, 300),
         ],

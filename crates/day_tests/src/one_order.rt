@@ -1,7 +1,7 @@
 use super::turns::{number_of, own_shares, security};
 use gate::day::TradingDay;
 use gate::pass::Pass;
-use orders::order::{Ask, Cancel, Order, State};
+use orders::order::{Cancel, Order, Request, State};
 use registers::participants::{Own, ParticipantRegister};
 use rules::buying::Buying;
 use rules::refusal::Refusal;
@@ -48,7 +48,7 @@ pub(super) fn later(order: Order, filled: u64, returned: u64, traded: u64, state
 pub(super) fn reserved(
     day: &mut TradingDay,
     book: &mut [Order],
-    ask: Ask,
+    request: Request,
 ) -> Result<Pass, Refusal> {
     let mut securities = [security(600_000, Buying::Open)];
     let list = SecurityList::over(&mut securities, 1);
@@ -64,12 +64,16 @@ pub(super) fn reserved(
         holdings: &mut held_by_others,
         rule: Own,
     };
-    day.reserve(&list, &mut register, &mut other, book, ask)
+    day.reserve(&list, &mut register, &mut other, book, request)
 }
 
 // Reserves an order and sends it.
-pub(super) fn sent(day: &mut TradingDay, book: &mut [Order], ask: Ask) -> Result<(), Refusal> {
-    let pass = reserved(day, book, ask)?;
+pub(super) fn sent(
+    day: &mut TradingDay,
+    book: &mut [Order],
+    request: Request,
+) -> Result<(), Refusal> {
+    let pass = reserved(day, book, request)?;
     day.send(book, pass)
 }
 

@@ -1,5 +1,5 @@
 use super::one_order::{Asked, answer, cancel, held, later, live, reserved, sent, trade, used};
-use super::turns::{ask, opened};
+use super::turns::{opened, request};
 use gate::day::TradingDay;
 use orders::order::{Cancel, Order, State};
 use rules::refusal::Refusal;
@@ -11,7 +11,7 @@ use std::test::Fail;
 fn answer_over(record: Order, asked: Asked) -> Result<(u64, bool), Refusal> {
     let mut day = opened(1, 20_190_215, 100_000)?;
     let mut book = [Order::default(); 1];
-    let taken = sent(&mut day, &mut book, ask(Side::Buy, 1000, 100));
+    let taken = sent(&mut day, &mut book, request(Side::Buy, 1000, 100));
     let before = day.figures();
     book = [record];
     let answer = answer(&mut day, &mut book, 1, asked);
@@ -102,7 +102,7 @@ fn of_two_rules_that_a_call_breaks_the_first_is_answered(rt: HostRuntime) -> Res
 fn answer_to_number(number: u64, rows: usize, asked: Asked) -> Result<u64, Refusal> {
     let mut day = opened(1, 20_190_215, 100_000)?;
     let mut book = [live(Side::Buy, Cancel::Asked); 2];
-    let taken = sent(&mut day, &mut book, ask(Side::Buy, 1000, 100));
+    let taken = sent(&mut day, &mut book, request(Side::Buy, 1000, 100));
     let answer = answer(&mut day, &mut book[..rows.min(2)], number, asked);
     day.leave();
     taken?;
@@ -171,12 +171,12 @@ fn passed_on(
     is_void: bool,
 ) -> Result<u64, Refusal> {
     let mut book = [Order::default(); 1];
-    sent(day, &mut book, ask(Side::Buy, 1000, 100))?;
+    sent(day, &mut book, request(Side::Buy, 1000, 100))?;
     let mut other_book = [Order::default(); 2];
     for _ in 0..case.earlier {
-        sent(other, &mut other_book, ask(Side::Buy, 1000, 100))?;
+        sent(other, &mut other_book, request(Side::Buy, 1000, 100))?;
     }
-    let pass = reserved(other, &mut other_book, ask(Side::Buy, 1000, 100))?;
+    let pass = reserved(other, &mut other_book, request(Side::Buy, 1000, 100))?;
     book = [case.record];
     Ok(used(day, &mut book[..case.rows.min(1)], pass, is_void))
 }
@@ -233,7 +233,7 @@ fn a_pass_is_good_for_a_held_order_of_its_day(rt: HostRuntime) -> Result<(), Fai
 
 // Reserves an order and uses its pass up; answers the number of the pass.
 fn number_of_next(day: &mut TradingDay, book: &mut [Order], is_void: bool) -> Result<u64, Refusal> {
-    let pass = reserved(day, book, ask(Side::Buy, 1000, 100))?;
+    let pass = reserved(day, book, request(Side::Buy, 1000, 100))?;
     let number = pass.number();
     used(day, book, pass, is_void);
     Ok(number)

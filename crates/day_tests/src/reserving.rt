@@ -1,6 +1,6 @@
-use super::turns::{account_shares, ask, number_of, opened, own_shares, security};
+use super::turns::{account_shares, number_of, opened, own_shares, request, security};
 use gate::day::TradingDay;
-use orders::order::{Ask, Order};
+use orders::order::{Order, Request};
 use registers::Register;
 use registers::accounts::{AccountRegister, Designated};
 use registers::participants::{Own, ParticipantRegister};
@@ -11,7 +11,7 @@ use std::test::Fail;
 use tables::rows::Designation;
 use tables::table::{AccountHoldings, Designations, Holdings, SecurityList};
 
-// An ask, the hour and the book that it comes to, and what it has to be answered: a refusal's number, or 0.
+// A request, the hour and the book that it comes to, and what it has to be answered: a refusal's number, or 0.
 #[derive(Clone, Copy)]
 struct Case {
     // how many steps the day has made
@@ -20,26 +20,26 @@ struct Case {
     rows: usize,
     // whether a buy has taken the quota, and a row of the book
     spent: bool,
-    ask: Ask,
+    request: Request,
     answer: u64,
 }
 
-// An ask in the opening call that comes to an empty book of two rows and a whole quota.
-fn early(ask: Ask, answer: u64) -> Case {
+// A request in the opening call that comes to an empty book of two rows and a whole quota.
+fn early(request: Request, answer: u64) -> Case {
     Case {
         steps: 0,
         rows: 2,
         spent: false,
-        ask,
+        request,
         answer,
     }
 }
 
 // The same with the quota spent.
-fn spent(ask: Ask, answer: u64) -> Case {
+fn spent(request: Request, answer: u64) -> Case {
     Case {
         spent: true,
-        ..early(ask, answer)
+        ..early(request, answer)
     }
 }
 
@@ -54,46 +54,49 @@ fn over(rows: usize, case: Case) -> Case {
 }
 
 // A buy of 100 shares that breaks no rule.
-fn buy() -> Ask {
-    ask(Side::Buy, 1000, 100)
+fn buy() -> Request {
+    request(Side::Buy, 1000, 100)
 }
 
 // A sell of 100 shares of participant 101 that breaks no rule.
-fn sell() -> Ask {
-    ask(Side::Sell, 1000, 100)
+fn sell() -> Request {
+    request(Side::Sell, 1000, 100)
 }
 
 // A sell of 100 shares of account 80000001 that breaks no rule.
-fn account_sell() -> Ask {
+fn account_sell() -> Request {
     by(102, of(80_000_001, sell()))
 }
 
-// The same ask of another participant.
-fn by(participant: u64, ask: Ask) -> Ask {
-    Ask { participant, ..ask }
+// The same request of another participant.
+fn by(participant: u64, request: Request) -> Request {
+    Request {
+        participant,
+        ..request
+    }
 }
 
-// The same ask for an account.
-fn of(account: u64, ask: Ask) -> Ask {
-    Ask { account, ..ask }
+// The same request for an account.
+fn of(account: u64, request: Request) -> Request {
+    Request { account, ..request }
 }
 
-// The same ask for another security.
-fn code(code: u64, ask: Ask) -> Ask {
-    Ask { code, ..ask }
+// The same request for another security.
+fn code(code: u64, request: Request) -> Request {
+    Request { code, ..request }
 }
 
-// The same ask at another price.
-fn at(price: u64, ask: Ask) -> Ask {
-    Ask { price, ..ask }
+// The same request at another price.
+fn at(price: u64, request: Request) -> Request {
+    Request { price, ..request }
 }
 
-// The same ask for other shares.
-fn for_shares(shares: u64, ask: Ask) -> Ask {
-    Ask { shares, ..ask }
+// The same request for other shares.
+fn for_shares(shares: u64, request: Request) -> Request {
+    Request { shares, ..request }
 }
 
-// Spends the quota where the case wants it, makes the steps, and answers the ask; an order that is taken is sent.
+// Spends the quota where the case wants it, makes the steps, and answers the request; an order that is taken is sent.
 fn asked<P: Register, A: Register>(
     day: &mut TradingDay,
     list: &SecurityList,
@@ -109,11 +112,11 @@ fn asked<P: Register, A: Register>(
     for _ in 0..case.steps {
         day.step()?;
     }
-    let pass = day.reserve(list, participants, accounts, book, case.ask)?;
+    let pass = day.reserve(list, participants, accounts, book, case.request)?;
     day.send(book, pass)
 }
 
-// What a case's ask is answered on a day whose quota is worth one buy of 100 shares.
+// What a case's request is answered on a day whose quota is worth one buy of 100 shares.
 fn answer(case: &Case) -> Result<u64, Refusal> {
     let mut securities = [
         security(600_000, Buying::Open),

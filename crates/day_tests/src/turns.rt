@@ -2,7 +2,7 @@ use gate::day::{LoadingDay, TradingDay};
 use gate::figures::Figures;
 use history::closing::close;
 use history::reading::balance;
-use orders::order::{Ask, Order};
+use orders::order::{Order, Request};
 use registers::Register;
 use registers::accounts::{AccountRegister, Designated};
 use registers::participants::{Own, ParticipantRegister};
@@ -19,8 +19,8 @@ use tables::table::{AccountHoldings, Designations, Holdings, SecurityList};
 // A call of a day with its arguments; an order that is taken is sent at once, or voided at once.
 #[derive(Clone, Copy, Debug)]
 pub(super) enum Call {
-    Send(Ask),
-    Void(Ask),
+    Send(Request),
+    Void(Request),
     Trade(u64, u64, u64),
     Return(u64),
     Cancel(u64, u64),
@@ -73,8 +73,8 @@ pub(super) fn shut(call: Call, answer: u64, balance: i64, own: u64, account: u64
 }
 
 // Participant 101 asks for shares of security 600000.
-pub(super) fn ask(side: Side, price: u64, shares: u64) -> Ask {
-    Ask {
+pub(super) fn request(side: Side, price: u64, shares: u64) -> Request {
+    Request {
         participant: 101,
         account: 0,
         code: 600_000,
@@ -86,20 +86,20 @@ pub(super) fn ask(side: Side, price: u64, shares: u64) -> Ask {
 
 // Participant 101 buys.
 pub(super) fn buy(price: u64, shares: u64) -> Call {
-    Call::Send(ask(Side::Buy, price, shares))
+    Call::Send(request(Side::Buy, price, shares))
 }
 
 // Participant 101 sells shares of its own.
 pub(super) fn sell(price: u64, shares: u64) -> Call {
-    Call::Send(ask(Side::Sell, price, shares))
+    Call::Send(request(Side::Sell, price, shares))
 }
 
 // Participant 102 sells shares of account 80000001.
 pub(super) fn sell_for_account(price: u64, shares: u64) -> Call {
-    Call::Send(Ask {
+    Call::Send(Request {
         participant: 102,
         account: 80_000_001,
-        ..ask(Side::Sell, price, shares)
+        ..request(Side::Sell, price, shares)
     })
 }
 
@@ -154,11 +154,11 @@ fn make<P: Register, A: Register>(
     call: Call,
 ) -> Result<(), Refusal> {
     match call {
-        Call::Send(ask) => match day.reserve(list, participants, accounts, book, ask) {
+        Call::Send(request) => match day.reserve(list, participants, accounts, book, request) {
             Ok(pass) => day.send(book, pass),
             Err(refusal) => Err(refusal),
         },
-        Call::Void(ask) => match day.reserve(list, participants, accounts, book, ask) {
+        Call::Void(request) => match day.reserve(list, participants, accounts, book, request) {
             Ok(pass) => day.void(participants, accounts, book, pass),
             Err(refusal) => Err(refusal),
         },

@@ -20,7 +20,7 @@ use Rattle.fields.specs.Reading.{ranging}
 use Rattle.dayfile.specs.Rows.{named_case}
 use Rattle.desk.specs.declared.event.Event.{Event}
 use Rattle.desk.specs.declared.event.Event.TheVariants as event
-use Rattle.desk.specs.Events.{ask_of, event_in, event_made, event_of, link_numbered}
+use Rattle.desk.specs.Events.{request_of, event_in, event_made, event_of, link_numbered}
 
 read_at : (t : List ℕ) (j : ℕ) (f : Field) (q : Quantity) → FieldAt t j f → ranging q f.bytes.now f.column ≡ field_in t j q
 read_at t j f q at = ap₂ (ranging q) at.bytes at.column
@@ -49,8 +49,8 @@ three (Ok x) (Ok y) (Err e) K = refl
 three (Ok x) (Err e) c K = refl
 three (Err e) b c K = refl
 
-five : (side : Side) (a b c d e : Read) (K : List ℕ → Result Event FieldFault) → ((p q r s t : ℕ) → Ok (event.Ask (ask_of side p q r s t)) ≡ K (p ∷ (q ∷ (r ∷ (s ∷ (t ∷ []))))))
-    → and_then (and_then a (λ p. and_then b (λ q. and_then c (λ r. and_then d (λ s. and_then e (λ t. Ok (ask_of side p q r s t))))))) (λ ask. Ok (event.Ask ask))
+five : (side : Side) (a b c d e : Read) (K : List ℕ → Result Event FieldFault) → ((p q r s t : ℕ) → Ok (event.Request (request_of side p q r s t)) ≡ K (p ∷ (q ∷ (r ∷ (s ∷ (t ∷ []))))))
+    → and_then (and_then a (λ p. and_then b (λ q. and_then c (λ r. and_then d (λ s. and_then e (λ t. Ok (request_of side p q r s t))))))) (λ request. Ok (event.Request request))
     ≡ and_then (and_then a (λ p. and_then (and_then b (λ q. and_then (and_then c (λ r. and_then (and_then d (λ s. and_then (and_then e (λ t. Ok (t ∷ []))) (λ ns. Ok (s ∷ ns)))) (λ ns. Ok (r ∷ ns)))) (λ ns. Ok (q ∷ ns)))) (λ ns. Ok (p ∷ ns)))) K
 five side (Ok p) (Ok q) (Ok r) (Ok s) (Ok t) K IfOk = IfOk p q r s t
 five side (Ok p) (Ok q) (Ok r) (Ok s) (Err f) K IfOk = refl
@@ -64,15 +64,15 @@ opened_as : (t : List ℕ) (l : Letter) → opening event_letters t ≡ Ok l →
 opened_as t l o = sym (ap (λ r. and_then r (λ x. and_then (numbers_from 0 (letter_rules x).fields t) (event_made x))) o)
 
 -- an order's line, of either side
-asked : (t : List ℕ) (side : Side) → opening event_letters t ≡ Ok (by_side side letter.Buy letter.Sell)
-    → and_then (and_then (field_in t 0 quantity.AnyNumber) (λ p. and_then (field_in t 1 quantity.AnyNumber) (λ q. and_then (field_in t 2 quantity.AnyNumber) (λ r. and_then (field_in t 3 quantity.AnyNumber) (λ s. and_then (field_in t 4 quantity.AnyNumber) (λ u. Ok (ask_of side p q r s u))))))) (λ ask. Ok (event.Ask ask)) ≡ event_of t
-asked t Buy o = five Buy (field_in t 0 quantity.AnyNumber) (field_in t 1 quantity.AnyNumber) (field_in t 2 quantity.AnyNumber) (field_in t 3 quantity.AnyNumber) (field_in t 4 quantity.AnyNumber) (event_made letter.Buy) (λ p q r s u. refl) ∙ opened_as t letter.Buy o
-asked t Sell o = five Sell (field_in t 0 quantity.AnyNumber) (field_in t 1 quantity.AnyNumber) (field_in t 2 quantity.AnyNumber) (field_in t 3 quantity.AnyNumber) (field_in t 4 quantity.AnyNumber) (event_made letter.Sell) (λ p q r s u. refl) ∙ opened_as t letter.Sell o
+requested : (t : List ℕ) (side : Side) → opening event_letters t ≡ Ok (by_side side letter.Buy letter.Sell)
+    → and_then (and_then (field_in t 0 quantity.AnyNumber) (λ p. and_then (field_in t 1 quantity.AnyNumber) (λ q. and_then (field_in t 2 quantity.AnyNumber) (λ r. and_then (field_in t 3 quantity.AnyNumber) (λ s. and_then (field_in t 4 quantity.AnyNumber) (λ u. Ok (request_of side p q r s u))))))) (λ request. Ok (event.Request request)) ≡ event_of t
+requested t Buy o = five Buy (field_in t 0 quantity.AnyNumber) (field_in t 1 quantity.AnyNumber) (field_in t 2 quantity.AnyNumber) (field_in t 3 quantity.AnyNumber) (field_in t 4 quantity.AnyNumber) (event_made letter.Buy) (λ p q r s u. refl) ∙ opened_as t letter.Buy o
+requested t Sell o = five Sell (field_in t 0 quantity.AnyNumber) (field_in t 1 quantity.AnyNumber) (field_in t 2 quantity.AnyNumber) (field_in t 3 quantity.AnyNumber) (field_in t 4 quantity.AnyNumber) (event_made letter.Sell) (λ p q r s u. refl) ∙ opened_as t letter.Sell o
 
 pub event_in_of : (t : List ℕ) (l : EventLine) → opening event_letters t ≡ Ok (event_letter_of l) → EventFieldsOf t l → event_in l ≡ event_of t
-event_in_of t (line.Ask side a b c d e) o at =
+event_in_of t (line.Request side a b c d e) o at =
     simp (read_at t 0 a quantity.AnyNumber at.0, read_at t 1 b quantity.AnyNumber at.1, read_at t 2 c quantity.AnyNumber at.2, read_at t 3 d quantity.AnyNumber at.3, read_at t 4 e quantity.AnyNumber at.4)
-    (asked t side o)
+    (requested t side o)
 event_in_of t (line.Trade a b c) o at =
     simp (read_at t 0 a quantity.AnyNumber at.0, read_at t 1 b quantity.AnyNumber at.1, read_at t 2 c quantity.AnyNumber at.2)
     (three (field_in t 0 quantity.AnyNumber) (field_in t 1 quantity.AnyNumber) (field_in t 2 quantity.AnyNumber) (event_made letter.Trade) ∙ opened_as t letter.Trade o)

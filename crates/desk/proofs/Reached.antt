@@ -2,16 +2,16 @@
 use Rattle.std.proofs.Common.{◌≡◌, Some, None, Option, sym, refl, ap, subst}
 use Rattle.rules.specs.declared.refusal.Refusal.{Refusal}
 use Rattle.rules.specs.Rules.{kept_or}
-use Rattle.orders.specs.declared.order.Ask.{Ask}
+use Rattle.orders.specs.declared.order.Request.{Request}
 use Rattle.gate.specs.declared.pass.Pass.{Pass}
-use Rattle.gate.specs.Calls.{Call, accepted, cancel, confirm, decline, give_back, notice, refusal_of, reserve, send, step, trade, void}
+use Rattle.gate.specs.Calls.{Call, accepted, called, cancel, confirm, decline, give_back, notice, refusal_of, reserve, send, step, trade, void}
 use Rattle.gate.specs.Desks.{Desk}
 use Rattle.history.specs.History.{noted, one_more}
 use Rattle.desk.specs.declared.event.Event.{Event}
 use Rattle.desk.specs.declared.event.Event.TheVariants as event
 use Rattle.desk.specs.declared.event.Link.{Link}
 use Rattle.desk.specs.declared.event.Link.TheVariants.{Down, Up}
-use Rattle.desk.specs.Effects.{Session, after_event, answered_ask, called, effect, pass_for, passed_on}
+use Rattle.desk.specs.Effects.{Session, after_event, answered_request, effect, pass_for, passed_on}
 use Rattle.desk.specs.Answered.{Reaches}
 
 pub stays : (d : Desk) → Reaches d d
@@ -27,15 +27,15 @@ by_pass : (link : Link) (d : Desk) (pass : Pass) → Reaches d (passed_on link d
 by_pass Up d pass = by_call d (send pass)
 by_pass Down d pass = by_call d (void pass)
 
-by_ask : (o : Option Refusal) (link : Link) (d : Desk) (a : Ask) → refusal_of d (reserve a) ≡ o → Reaches d (answered_ask o link d a).desk
-by_ask (Some e) link d a q = stays d
-by_ask None link d a q =
+by_request : (o : Option Refusal) (link : Link) (d : Desk) (a : Request) → refusal_of d (reserve a) ≡ o → Reaches d (answered_request o link d a).desk
+by_request (Some e) link d a q = stays d
+by_request None link d a q =
     let taken : Reaches d (accepted d (reserve a)) = λ d₀ cs ran. (noted None (reserve a) cs, one_more (accepted d (reserve a)) (reserve a) None ran (record { answers = sym q; becomes = sym (ap (λ o. kept_or o d (accepted d (reserve a))) q) })) in
     then_reaches d (accepted d (reserve a)) (passed_on link (accepted d (reserve a)) (pass_for d)).desk taken (by_pass link (accepted d (reserve a)) (pass_for d))
 
 -- an event's desk is reached from the desk before it
 pub by_event : (s : Session) (e : Event) → Reaches s.desk (effect s e).desk
-by_event s (event.Ask ask) = by_ask (refusal_of s.desk (reserve ask)) s.link s.desk ask refl
+by_event s (event.Request request) = by_request (refusal_of s.desk (reserve request)) s.link s.desk request refl
 by_event s (event.Trade order shares price) = by_call s.desk (trade order shares price)
 by_event s (event.Return order) = by_call s.desk (give_back order)
 by_event s (event.Confirm order) = by_call s.desk (confirm order)

@@ -2,12 +2,12 @@
 use Rattle.std.specs.Prelude.{ℕ, ◌+◌, Bool, true, false, Some, None, Ok, Err, Option, Result}
 use Rattle.rules.specs.declared.refusal.Refusal.{Refusal}
 use Rattle.rules.specs.declared.refusal.Refusal.TheVariants as refusal
-use Rattle.rules.specs.Rules.{first_broken, kept_or}
+use Rattle.rules.specs.Rules.{first_broken}
 use Rattle.tables.specs.Tables.{lines_of}
 use Rattle.registers.specs.Meaning.{Meaning}
-use Rattle.orders.specs.declared.order.Ask.{Ask}
+use Rattle.orders.specs.declared.order.Request.{Request}
 use Rattle.gate.specs.declared.pass.Pass.{Pass}
-use Rattle.gate.specs.Calls.{Call, accepted, cancel, confirm, decline, give_back, notice, refusal_of, reserve, send, step, trade, void}
+use Rattle.gate.specs.Calls.{Call, accepted, called, cancel, confirm, decline, give_back, notice, refusal_of, reserve, send, step, trade, void}
 use Rattle.gate.specs.Closed.{closing_rules}
 use Rattle.gate.specs.Desks.{Desk, desk}
 use Rattle.desk.specs.declared.session.Session.{Session as Open}
@@ -39,15 +39,11 @@ abbrev pub unless : Option Refusal → ℕ → Result ℕ Refusal
 unless None n = Ok n
 unless (Some e) n = Err e
 
--- The desk after a call on it, accepted or refused.
-abbrev pub called : Desk → Call → Desk
-called d c = kept_or (refusal_of d c) d (accepted d c)
-
 -- One call: its refusal, or the number of its order where it is accepted.
 abbrev pub one_call : Desk → Call → ℕ → Effect
 one_call d c number = record { shows = unless (refusal_of d c) number; desk = called d c }
 
--- The pass that an accepted ask is given.
+-- The pass that an accepted request is given.
 abbrev pub pass_for : Desk → Pass
 pass_for d = record { market = d.figures.market; date = d.figures.date; number = d.figures.count + 1 }
 
@@ -56,22 +52,22 @@ abbrev pub voided : Option Refusal → Result ℕ Refusal
 voided None = Err refusal.Link
 voided (Some e) = Err e
 
--- An ask that was accepted: its order is sent, or voided where the link is down.
+-- A request that was accepted: its order is sent, or voided where the link is down.
 abbrev pub passed_on : Link → Desk → Pass → Effect
 passed_on Up d pass = one_call d (send pass) pass.number
 passed_on Down d pass = record { shows = voided (refusal_of d (void pass)); desk = called d (void pass) }
 
--- An ask's answer, and then its pass.
-abbrev pub answered_ask : Option Refusal → Link → Desk → Ask → Effect
-answered_ask (Some e) link d a = record { shows = Err e; desk = d }
-answered_ask None link d a = passed_on link (accepted d (reserve a)) (pass_for d)
+-- A request's answer, and then its pass.
+abbrev pub answered_request : Option Refusal → Link → Desk → Request → Effect
+answered_request (Some e) link d a = record { shows = Err e; desk = d }
+answered_request None link d a = passed_on link (accepted d (reserve a)) (pass_for d)
 
 -- What each event comes to.
 abbrev pub effect : Session → Event → Effect
 effect s event.Step = one_call s.desk step 0
 effect s (event.Notice code foreign total) = one_call s.desk (notice code foreign total) 0
 effect s (event.Link state) = record { shows = Ok 0; desk = s.desk }
-effect s (event.Ask ask) = answered_ask (refusal_of s.desk (reserve ask)) s.link s.desk ask
+effect s (event.Request request) = answered_request (refusal_of s.desk (reserve request)) s.link s.desk request
 effect s (event.Trade order shares price) = one_call s.desk (trade order shares price) order
 effect s (event.Return order) = one_call s.desk (give_back order) order
 effect s (event.Confirm order) = one_call s.desk (confirm order) order
@@ -84,7 +80,7 @@ abbrev pub link_after : Link → Event → Link
 link_after link event.Step = link
 link_after link (event.Notice code foreign total) = link
 link_after link (event.Link state) = state
-link_after link (event.Ask ask) = link
+link_after link (event.Request request) = link
 link_after link (event.Trade order shares price) = link
 link_after link (event.Return order) = link
 link_after link (event.Confirm order) = link
@@ -106,7 +102,7 @@ abbrev pub closed_by : Event → Result ℕ Refusal → Bool
 closed_by event.Step shows = false
 closed_by (event.Notice code foreign total) shows = false
 closed_by (event.Link state) shows = false
-closed_by (event.Ask ask) shows = false
+closed_by (event.Request request) shows = false
 closed_by (event.Trade order shares price) shows = false
 closed_by (event.Return order) shows = false
 closed_by (event.Confirm order) shows = false

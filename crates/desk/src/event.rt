@@ -4,7 +4,7 @@ ghost use Rattle.rules.specs.declared.refusal.Refusal.TheVariants as refusal;
 ghost use Rattle.desk.specs.Effects.{closed_by};
 ghost use Rattle.desk.specs.Events.{event_letter, link_numbered};
 
-use orders::order::Ask;
+use orders::order::Request;
 use rules::letter::Letter;
 use rules::refusal::Refusal;
 use rules::side::Side;
@@ -37,7 +37,7 @@ pub enum Event {
     Step,
     Notice { code: u64, foreign: u64, total: u64 },
     Link { state: Link },
-    Ask { ask: Ask },
+    Request { request: Request },
     Trade { order: u64, shares: u64, price: u64 },
     Return { order: u64 },
     Confirm { order: u64 },
@@ -55,7 +55,7 @@ impl Event {
             Event::Step => Letter::Step,
             Event::Notice { .. } => Letter::Notice,
             Event::Link { .. } => Letter::Link,
-            Event::Ask { ask } => match ask.side {
+            Event::Request { request } => match request.side {
                 Side::Buy => Letter::Buy,
                 Side::Sell => Letter::Sell,
             },

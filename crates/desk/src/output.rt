@@ -34,7 +34,7 @@ const ROWS: usize = 256;
 // The rows of the program's book.
 const ORDERS: usize = 512;
 
-// Closes a day that may be closed; one that may not is left where it stands.
+// Closes a day whose close was accepted as an event. A day that comes back is left where it stands.
 fn close_day<P: Register, A: Register>(
     day: TradingDay,
     list: &SecurityList,
@@ -159,7 +159,7 @@ struct ProgramRows {
 impl ProgramRows {
     // Rows for each of the program's tables, and for its book.
     fn new(heap: Global) -> Result<ProgramRows, AllocError>
-        ensures { IfOk result (λ t. (vec_len t.securities ≡ 256) × (vec_len t.holdings ≡ 256) × (vec_len t.account_holdings ≡ 256) × (vec_len t.designations ≡ 256) × (vec_len t.book ≡ 512)) }
+        ensures { IfOk result (λ t. (vec_len t.securities ≡ program_room.securities) × (vec_len t.holdings ≡ program_room.holdings) × (vec_len t.account_holdings ≡ program_room.account_holdings) × (vec_len t.designations ≡ program_room.designations) × (vec_len t.book ≡ program_orders)) }
     {
         Ok(ProgramRows {
             securities: vec![in heap; Security::default(); ROWS]?,
@@ -185,7 +185,7 @@ fn answer_day(heap: Global, input: &[u8], out: &mut String) -> Result<(), AllocE
     answer(input, &mut tables, &mut rows.book, out)
 }
 
-// The whole answer to an input: in every run the balances that it shows are those of a history, and the law holds of it.
+// The whole answer to an input: in every run a history leads to the day that it leaves, and the law holds of it.
 pub fn output(heap: Global, input: &[u8]) -> Result<Vec<u8>, AllocError>
     ensures { IfOk result (λ text. Output input.now program_room program_orders text.items) }
 {

@@ -4,14 +4,14 @@ ghost use Rattle.fields.specs.Faults.{day_at, line_at};
 ghost use Rattle.fields.specs.Layout.{width_of};
 ghost use Rattle.fields.specs.Lines.{event_letter_of};
 ghost use Rattle.desk.specs.Answered.{event_fault, late_fault};
-ghost use Rattle.desk.specs.Events.{any_number, ask_read, event_in, event_letter, event_of, link_read};
+ghost use Rattle.desk.specs.Events.{any_number, request_read, event_in, event_letter, event_of, link_read};
 
 use super::event::{Event, Link};
 use fields::fault::{DayFault, FieldFault, LineFault};
 use fields::field::Field;
 use fields::line::{EventLine, first_byte};
 use fields::rest::Rest;
-use orders::order::Ask;
+use orders::order::Request;
 use rules::letter::Part;
 use rules::range::Quantity;
 use rules::refusal::Refusal;
@@ -24,19 +24,19 @@ fn any_number(field: Field) -> Result<u64, FieldFault>
     field.ranged(Quantity::AnyNumber)
 }
 
-// The ask of five fields, judged from the left.
-fn ask(
+// The request of five fields, judged from the left.
+fn request(
     side: Side,
     participant: Field,
     account: Field,
     code: Field,
     price: Field,
     shares: Field,
-) -> Result<Ask, FieldFault>
-    ensures is { result ≡ ask_read side participant.entry account.entry code.entry price.entry shares.entry }
+) -> Result<Request, FieldFault>
+    ensures is { result ≡ request_read side participant.entry account.entry code.entry price.entry shares.entry }
     ensures same { IfOk result (λ a. a.side ≡ side) }
 {
-    Ok(Ask {
+    Ok(Request {
         participant: any_number(participant)?,
         account: any_number(account)?,
         code: any_number(code)?,
@@ -73,15 +73,15 @@ fn event_in(line: EventLine) -> Result<Event, FieldFault>
         EventLine::Link { state } => Event::Link {
             state: link(state)?,
         },
-        EventLine::Ask {
+        EventLine::Request {
             side,
             participant,
             account,
             code,
             price,
             shares,
-        } => Event::Ask {
-            ask: ask(side, participant, account, code, price, shares)?,
+        } => Event::Request {
+            request: request(side, participant, account, code, price, shares)?,
         },
         EventLine::Trade {
             order,

@@ -13,7 +13,7 @@ use fields::rest::Rest;
 use gate::day::TradingDay;
 use gate::pass::Pass;
 use history::reading::balance;
-use orders::order::{Ask, Order};
+use orders::order::{Order, Request};
 use registers::Register;
 use rules::refusal::Refusal;
 use std::alloc::AllocError;
@@ -69,17 +69,17 @@ impl<P: Register, A: Register> Session<'_, '_, P, A> {
         }
     }
 
-    // Reserves an ask, and passes its order on.
-    fn place(&mut self, ask: Ask) -> Result<u64, Refusal>
-        ensures shows { result ≡ (effect (session_of P.Register.meaning A.Register.meaning self.old) (event.Ask ask)).shows }
-        ensures after { session_of P.Register.meaning A.Register.meaning self.new ≡ after_event (session_of P.Register.meaning A.Register.meaning self.old) (event.Ask ask) }
+    // Reserves a request, and passes its order on.
+    fn place(&mut self, request: Request) -> Result<u64, Refusal>
+        ensures shows { result ≡ (effect (session_of P.Register.meaning A.Register.meaning self.old) (event.Request request)).shows }
+        ensures after { session_of P.Register.meaning A.Register.meaning self.new ≡ after_event (session_of P.Register.meaning A.Register.meaning self.old) (event.Request request) }
     {
         let pass = self.day.reserve(
             self.list,
             &mut self.participants,
             &mut self.accounts,
             self.book,
-            ask,
+            request,
         )?;
         self.pass_on(pass)
     }
@@ -100,7 +100,7 @@ impl<P: Register, A: Register> Session<'_, '_, P, A> {
                 self.link = state;
                 Ok(0)
             }
-            Event::Ask { ask } => self.place(ask),
+            Event::Request { request } => self.place(request),
             Event::Trade {
                 order,
                 shares,

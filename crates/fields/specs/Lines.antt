@@ -32,7 +32,7 @@ abbrev pub event_letter_of : EventLine → Letter
 event_letter_of event.Step = letter.Step
 event_letter_of (event.Notice a b c) = letter.Notice
 event_letter_of (event.Link a) = letter.Link
-event_letter_of (event.Ask side a b c d e) = by_side side letter.Buy letter.Sell
+event_letter_of (event.Request side a b c d e) = by_side side letter.Buy letter.Sell
 event_letter_of (event.Trade a b c) = letter.Trade
 event_letter_of (event.Return a) = letter.Return
 event_letter_of (event.Confirm a) = letter.Confirm
@@ -45,7 +45,7 @@ abbrev pub EventFieldsOf : List ℕ → EventLine → Type 0
 EventFieldsOf line event.Step = Unit {0}
 EventFieldsOf line (event.Notice a b c) = FieldAt line 0 a × FieldAt line 1 b × FieldAt line 2 c
 EventFieldsOf line (event.Link a) = FieldAt line 0 a
-EventFieldsOf line (event.Ask side a b c d e) = FieldAt line 0 a × FieldAt line 1 b × FieldAt line 2 c × FieldAt line 3 d × FieldAt line 4 e
+EventFieldsOf line (event.Request side a b c d e) = FieldAt line 0 a × FieldAt line 1 b × FieldAt line 2 c × FieldAt line 3 d × FieldAt line 4 e
 EventFieldsOf line (event.Trade a b c) = FieldAt line 0 a × FieldAt line 1 b × FieldAt line 2 c
 EventFieldsOf line (event.Return a) = FieldAt line 0 a
 EventFieldsOf line (event.Confirm a) = FieldAt line 0 a

@@ -61,7 +61,7 @@ pub enum EventLine<'a> {
     Link {
         state: Field<'a>,
     },
-    Ask {
+    Request {
         side: Side,
         participant: Field<'a>,
         account: Field<'a>,
@@ -188,8 +188,8 @@ impl<'a> EventLine<'a> {
                 let [state] = parts::<_, 1>(rest)?;
                 Ok(EventLine::Link { state })
             }
-            'B' => EventLine::ask(rest, Side::Buy),
-            'L' => EventLine::ask(rest, Side::Sell),
+            'B' => EventLine::request(rest, Side::Buy),
+            'L' => EventLine::request(rest, Side::Sell),
             'T' => {
                 let [order, shares, price] = parts::<_, 3>(rest)?;
                 Ok(EventLine::Trade {
@@ -223,11 +223,11 @@ impl<'a> EventLine<'a> {
     }
 
     // The line of an order of the side.
-    fn ask(line: &'a [u8], side: Side) -> Result<EventLine<'a>, FieldFault>
+    fn request(line: &'a [u8], side: Side) -> Result<EventLine<'a>, FieldFault>
         ensures { MatchResult result (λ l. (closing line.now 5 ≡ Ok tt) × (event_letter_of l ≡ by_side side letters.Buy letters.Sell) × EventFieldsOf line.now l) (λ f. closing line.now 5 ≡ Err f) }
     {
         let [participant, account, code, price, shares] = parts::<_, 5>(line)?;
-        Ok(EventLine::Ask {
+        Ok(EventLine::Request {
             side,
             participant,
             account,

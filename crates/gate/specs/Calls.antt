@@ -11,12 +11,12 @@ use Rattle.rules.specs.Sides.{by_side}
 use Rattle.tables.specs.declared.rows.Security.{Security}
 use Rattle.tables.specs.Rows.{no_security, noticed}
 use Rattle.registers.specs.Meaning.{Meaning, restore_answer, restored}
-use Rattle.orders.specs.declared.order.Ask.{Ask}
+use Rattle.orders.specs.declared.order.Request.{Request}
 use Rattle.orders.specs.declared.order.Cancel.TheVariants.{Unasked, Asked}
 use Rattle.orders.specs.declared.order.Order.{Order}
 use Rattle.orders.specs.declared.order.State.{State}
 use Rattle.orders.specs.declared.order.State.TheVariants.{Live}
-use Rattle.orders.specs.Faults.{asked_faults, cancel_faults, fill_faults, pass_faults, return_faults}
+use Rattle.orders.specs.Faults.{cancel_asked_faults, cancel_faults, fill_faults, pass_faults, return_faults}
 use Rattle.orders.specs.Outcomes.{ended_by, filled_by, freed, raise}
 use Rattle.orders.specs.Records.{remainder, with_state}
 use Rattle.gate.specs.declared.figures.Figures.{Figures}
@@ -27,7 +27,7 @@ use Rattle.gate.specs.Reserves.{after_reserve, reserve_rules, wants}
 
 -- A call with its arguments: trade takes an order's number, shares and a price; cancel a number and a participant; notice a code, foreign shares and the total.
 pub data Call : Type 0 where
-  reserve : Ask → Call
+  reserve : Request → Call
   send : Pass → Call
   void : Pass → Call
   trade : ℕ → ℕ → ℕ → Call
@@ -82,7 +82,7 @@ return_rules d number =
 abbrev pub confirm_rules : Desk → ℕ → List (Option Refusal)
 confirm_rules d number =
     when (no_record d.figures d.book number) refusal.Order
-    ∷ (first_broken (asked_faults (record_of d.book number))
+    ∷ (first_broken (cancel_asked_faults (record_of d.book number))
     ∷ (end_rule d.figures d.participants d.accounts (record_of d.book number)
     ∷ []))
 
@@ -90,7 +90,7 @@ confirm_rules d number =
 abbrev pub decline_rules : Desk → ℕ → List (Option Refusal)
 decline_rules d number =
     when (no_record d.figures d.book number) refusal.Order
-    ∷ (first_broken (asked_faults (record_of d.book number))
+    ∷ (first_broken (cancel_asked_faults (record_of d.book number))
     ∷ [])
 
 -- Cancel: the number, the record and its participant, the phase.
@@ -176,7 +176,11 @@ accepted d (decline number) = restated d number (Live Unasked)
 accepted d step = desk (settled_at d.figures d.figures.balance (stepped d.figures.phase) d.figures.count) d.list d.participants d.accounts d.book
 accepted d (notice code foreign total) = desk (settled d.figures) (noticed_at d.list (listed d.list code) foreign total) d.participants d.accounts d.book
 
+-- The desk after a call on it, accepted or refused.
+abbrev pub called : Desk → Call → Desk
+called d c = kept_or (refusal_of d c) d (accepted d c)
+
 -- The call on the desk answers the first rule broken, and leaves what an accepted call leaves, or the desk as it was.
 pub record Did (d : Desk) (c : Call) (answer : Option Refusal) (d' : Desk) : Type 0 where
   pub answers : answer ≡ refusal_of d c
-  pub becomes : d' ≡ kept_or (refusal_of d c) d (accepted d c)
+  pub becomes : d' ≡ called d c

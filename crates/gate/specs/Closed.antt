@@ -1,11 +1,11 @@
 -- How a day closes.
-use Rattle.std.specs.Prelude.{◌≡◌, ℕ, ◌<◌, Bool, true, false, not, List, [], ◌∷◌, length, get_or, take, Option, nat_lt, slice_index_or}
+use Rattle.std.specs.Prelude.{◌≡◌, ℕ, ◌<◌, Bool, true, false, not, List, [], ◌∷◌, length, take, None, Option, nat_lt, slice_index_or}
 use Rattle.std.specs.List.{list_all}
 use Rattle.rules.specs.declared.phase.Phase.{Phase}
 use Rattle.rules.specs.declared.phase.Phase.TheVariants.{OpeningCall, OpeningCallNoCancel, Continuous, ClosingCall, AfterHours}
 use Rattle.rules.specs.declared.refusal.Refusal.{Refusal}
 use Rattle.rules.specs.declared.refusal.Refusal.TheVariants as refusal
-use Rattle.rules.specs.Rules.{when}
+use Rattle.rules.specs.Rules.{first_broken, when}
 use Rattle.orders.specs.declared.order.Order.{Order}
 use Rattle.orders.specs.declared.order.State.TheVariants.{Done}
 use Rattle.orders.specs.Records.{is_done, no_order, remainder, sound_order}
@@ -38,4 +38,10 @@ closing_rules f book =
 
 -- Nothing is in flight: each of the day's orders is done, and no remainder is left of it.
 abbrev pub NothingInFlight : Figures → List Order → Type 0
-NothingInFlight f book = (i : ℕ) → i < f.count → ((get_or book i no_order).state ≡ Done) × (remainder (slice_index_or book i no_order) ≡ 0)
+NothingInFlight f book = (i : ℕ) → i < f.count → ((slice_index_or book i no_order).state ≡ Done) × (remainder (slice_index_or book i no_order) ≡ 0)
+
+-- The day closes over its book: no rule of closing is broken, the figures are kept, and nothing is in flight.
+pub record ClosedOver (f : Figures) (book : List Order) (closed : Figures) : Type 0 where
+  pub allowed : first_broken (closing_rules f book) ≡ None
+  pub figures : closed ≡ f
+  pub flight : NothingInFlight closed book

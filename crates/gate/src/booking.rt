@@ -8,12 +8,12 @@ ghost use Rattle.gate.specs.Reserves.{accounts_drawn, drawn_for, found, or_zero,
 ghost use Rattle.gate.specs.Calls.{Did};
 ghost use Rattle.gate.specs.Calls.{reserve as a_reserve};
 
-use super::asking::{check_buy, security_for};
 use super::balance::{lowered, settle};
 use super::day::TradingDay;
 use super::figures::Figures;
 use super::pass::Pass;
-use orders::order::{Ask, Order};
+use super::requesting::{check_buy, security_for};
+use orders::order::{Order, Request};
 use registers::Register;
 use rules::refusal::Refusal;
 use rules::side::Side;
@@ -21,48 +21,48 @@ use tables::rows::Security;
 use tables::table::SecurityList;
 
 // Finds the pool of a sell, and draws its shares.
-fn draw_for<R: Register>(register: &mut R, ask: Ask) -> Result<usize, Refusal>
-    ensures answer { refusal_in result ≡ first_broken (sell_rules (R.Register.meaning register.old) ask) }
-    ensures pool { IfOk result (λ k. k ≡ or_zero (found (R.Register.meaning register.old) ask)) }
-    ensures after { R.Register.meaning register.new ≡ kept_or (refusal_in result) (R.Register.meaning register.old) (drawn_for (R.Register.meaning register.old) ask) }
+fn draw_for<R: Register>(register: &mut R, request: Request) -> Result<usize, Refusal>
+    ensures answer { refusal_in result ≡ first_broken (sell_rules (R.Register.meaning register.old) request) }
+    ensures pool { IfOk result (λ k. k ≡ or_zero (found (R.Register.meaning register.old) request)) }
+    ensures after { R.Register.meaning register.new ≡ kept_or (refusal_in result) (R.Register.meaning register.old) (drawn_for (R.Register.meaning register.old) request) }
 {
-    let pool = register.find(ask.participant, ask.account, ask.code)?;
-    register.draw(pool, ask.shares)?;
+    let pool = register.find(request.participant, request.account, request.code)?;
+    register.draw(pool, request.shares)?;
     Ok(pool)
 }
 
-// Checks the further rules of an ask's side, and takes a sell's shares; answers the pool.
+// Checks the further rules of a request's side, and takes a sell's shares; answers the pool.
 fn take_for<P: Register, A: Register>(
     f: Figures,
     security: Security,
     participants: &mut P,
     accounts: &mut A,
-    ask: Ask,
+    request: Request,
 ) -> Result<usize, Refusal>
-    ensures answer { refusal_in result ≡ first_broken (side_faults f (Some security) (P.Register.meaning participants.old) (A.Register.meaning accounts.old) ask) }
-    ensures pool { IfOk result (λ k. k ≡ pool_for (by_account ask.account (P.Register.meaning participants.old) (A.Register.meaning accounts.old)) ask) }
-    ensures participants { P.Register.meaning participants.new ≡ kept_or (refusal_in result) (P.Register.meaning participants.old) (participants_drawn (P.Register.meaning participants.old) ask) }
-    ensures accounts { A.Register.meaning accounts.new ≡ kept_or (refusal_in result) (A.Register.meaning accounts.old) (accounts_drawn (A.Register.meaning accounts.old) ask) }
+    ensures answer { refusal_in result ≡ first_broken (side_faults f (Some security) (P.Register.meaning participants.old) (A.Register.meaning accounts.old) request) }
+    ensures pool { IfOk result (λ k. k ≡ pool_for (by_account request.account (P.Register.meaning participants.old) (A.Register.meaning accounts.old)) request) }
+    ensures participants { P.Register.meaning participants.new ≡ kept_or (refusal_in result) (P.Register.meaning participants.old) (participants_drawn (P.Register.meaning participants.old) request) }
+    ensures accounts { A.Register.meaning accounts.new ≡ kept_or (refusal_in result) (A.Register.meaning accounts.old) (accounts_drawn (A.Register.meaning accounts.old) request) }
 {
-    match ask.side {
-        Side::Buy => check_buy(f, security, ask).and(Ok(0)),
-        Side::Sell if ask.account == 0 => draw_for(participants, ask),
-        Side::Sell => draw_for(accounts, ask),
+    match request.side {
+        Side::Buy => check_buy(f, security, request).and(Ok(0)),
+        Side::Sell if request.account == 0 => draw_for(participants, request),
+        Side::Sell => draw_for(accounts, request),
     }
 }
 
-// The figures after an accepted ask.
-fn reserved(f: Figures, ask: Ask) -> Figures
+// The figures after an accepted request.
+fn reserved(f: Figures, request: Request) -> Figures
     requires bounded { unsigned_abs f.balance ≤ most_balance }
     requires few { f.count < most_orders }
-    requires above { by_side ask.side (int_le f.balance (pos 0)) false ≡ false }
-    requires small { ask.price * ask.shares ≤ most_balance }
-    ensures value { result ≡ reserved_by f ask }
+    requires above { by_side request.side (int_le f.balance (pos 0)) false ≡ false }
+    requires small { request.price * request.shares ≤ most_balance }
+    ensures value { result ≡ reserved_by f request }
     ensures timely { shut_in_time result ≡ true }
     ensures bounded { unsigned_abs result.balance ≤ most_balance }
 {
-    let balance = match ask.side {
-        Side::Buy => lowered(f.balance, ask.price * ask.shares),
+    let balance = match request.side {
+        Side::Buy => lowered(f.balance, request.price * request.shares),
         Side::Sell => f.balance,
     };
     settle(Figures {
@@ -80,16 +80,16 @@ impl TradingDay {
         participants: &mut P,
         accounts: &mut A,
         book: &mut [Order],
-        ask: Ask,
+        request: Request,
     ) -> Result<Pass, Refusal>
-        ensures did { Did (desk self.old.figures (lines_of list.now) (P.Register.meaning participants.old) (A.Register.meaning accounts.old) book.old) (a_reserve ask) (refusal_in result) (desk self.new.figures (lines_of list.now) (P.Register.meaning participants.new) (A.Register.meaning accounts.new) book.new) }
+        ensures did { Did (desk self.old.figures (lines_of list.now) (P.Register.meaning participants.old) (A.Register.meaning accounts.old) book.old) (a_reserve request) (refusal_in result) (desk self.new.figures (lines_of list.now) (P.Register.meaning participants.new) (A.Register.meaning accounts.new) book.new) }
         ensures pass { IfOk result (λ pass. pass ≡ record { market = self.old.figures.market; date = self.old.figures.date; number = self.old.figures.count + 1 }) }
     {
         let f = self.figures;
-        let security = security_for(f, list, book.len(), ask)?;
-        let pool = take_for(f, security, participants, accounts, ask)?;
-        book[f.count as usize] = ask.held(pool);
-        self.figures = reserved(f, ask);
+        let security = security_for(f, list, book.len(), request)?;
+        let pool = take_for(f, security, participants, accounts, request)?;
+        book[f.count as usize] = request.held(pool);
+        self.figures = reserved(f, request);
         Ok(Pass {
             market: f.market,
             date: f.date,

@@ -1,6 +1,6 @@
-ghost use Rattle.std.specs.Prelude.{◌≡◌, IfNone, Some, None, MatchResult};
+ghost use Rattle.std.specs.Prelude.{◌≡◌, IfNone, Some, MatchResult};
 ghost use Rattle.rules.specs.Rules.{first_broken};
-ghost use Rattle.gate.specs.Closed.{NothingInFlight, all_done, all_sound, closing_rules};
+ghost use Rattle.gate.specs.Closed.{ClosedOver, NothingInFlight, all_done, all_sound, closing_rules};
 
 use super::day::{ClosedDay, TradingDay};
 use super::figures::Figures;
@@ -42,9 +42,10 @@ impl TradingDay {
         None
     }
 
-    // Ends the day with its figures where nothing is in flight; else the trading day comes back as it was.
+    // Ends the day with its figures, after hours and where each of its orders is sound and done; else the trading day comes
+    // back as it was.
     pub fn close(self, book: &[Order]) -> Result<ClosedDay, (TradingDay, Refusal)>
-        ensures { MatchResult result (λ closed. (first_broken (closing_rules self.figures book.now) ≡ None) × (closed.figures ≡ self.figures) × NothingInFlight closed.figures book.now) (λ back. (first_broken (closing_rules self.figures book.now) ≡ Some back.1) × (back.0.figures ≡ self.figures)) }
+        ensures { MatchResult result (λ closed. ClosedOver self.figures book.now closed.figures) (λ back. (first_broken (closing_rules self.figures book.now) ≡ Some back.1) × (back.0.figures ≡ self.figures)) }
     {
         if let Some(refusal) = self.closing_refusal(book) {
             return Err((self, refusal));

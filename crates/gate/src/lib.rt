@@ -1,7 +1,6 @@
 // One trading day of one market: loading, trading, closed.
 #![tactic(auto)]
 
-mod asking;
 mod balance;
 pub mod booking;
 pub mod cancelling;
@@ -14,6 +13,7 @@ mod numbering;
 pub mod opening;
 pub mod pass;
 pub mod reading;
+mod requesting;
 pub mod sending;
 pub mod stepping;
 pub mod trading;

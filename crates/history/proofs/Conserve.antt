@@ -15,7 +15,7 @@ use Rattle.rules.specs.Sides.{by_side}
 use Rattle.tables.specs.declared.rows.Security.{Security}
 use Rattle.registers.specs.declared.pool.Pool.{Pool}
 use Rattle.registers.specs.Meaning.{Fresh, FreshPool, Meaning}
-use Rattle.orders.specs.declared.order.Ask.{Ask}
+use Rattle.orders.specs.declared.order.Request.{Request}
 use Rattle.orders.specs.declared.order.Cancel.TheVariants.{Unasked, Asked}
 use Rattle.orders.specs.declared.order.Order.{Order}
 use Rattle.orders.specs.declared.order.State.{State}
@@ -30,7 +30,7 @@ use Rattle.gate.specs.Balances.{low, most_orders, raised_by, settled_at}
 use Rattle.gate.specs.Calls.{Call, accepted, accounts_restored, after_end, cancel, confirm, decline, give_back, notice, noticed_at, other_day, participants_restored, refusal_of, reserve, restated, restored_for, send, step, stepped, trade, void}
 use Rattle.gate.specs.Desks.{Desk, by_account, desk, line_of, listed, no_record, record_of}
 use Rattle.gate.specs.Opened.{opened}
-use Rattle.gate.specs.Reserves.{after_reserve, asked_rules, buy_rules, buying_rule, drawn_for, found, or_zero, pool_for, sell_rules, side_faults}
+use Rattle.gate.specs.Reserves.{after_reserve, request_rules, buy_rules, buying_rule, drawn_for, found, or_zero, pool_for, sell_rules, side_faults}
 use Rattle.history.specs.History.{Balanced, BeenLow, Conserved, InEveryHistory, LowAfter, Ran, finding_of, no_call, noted, one_more, register_of}
 use Rattle.history.specs.Tally.{Entry, Finding, Holder, Tally, accounts, at_entry, bought, buy_reserved, entry_for, figure, holder_of, in_pool, moved, no_entry, participants, pool_found, released, same_holder, shares_reserved, shares_sold, sold, sum_of, tallied, tally}
 use Rattle.history.proofs.Openings.{ran_open}
@@ -130,7 +130,7 @@ rules_part : (s : Side) (x y : List (Option Refusal)) → first_broken (by_side 
 rules_part Buy x y h = tt
 rules_part Sell x y h = h
 
-asked_room : (f : Figures) (security : Option Security) (room : ℕ) (a : Ask) → first_broken (asked_rules f security room a) ≡ None → f.count < room
+asked_room : (f : Figures) (security : Option Security) (room : ℕ) (a : Request) → first_broken (request_rules f security room a) ≡ None → f.count < room
 asked_room f security room a h =
     let r1 = passed (not (phase_rules f.phase).orders) _ _ h in
     let r2 = passed (leb room f.count || leb most_orders f.count) _ _ r1.1 in
@@ -226,7 +226,7 @@ module _ (finds : Finding) (quota : ℕ) where
       (changed_finding o.side o.account (λ x. restored_for x o) d (after_end d n) change (λ x. refl))
       (λ holder j. subst (λ x. Balanced (x.pools j) (sum_of (shares_reserved holder j) (at_entry n released t).entries) (sum_of (shares_sold holder j) (at_entry n released t).entries)) (sym (change holder)) (end_pool o.side (same_holder holder (holder_of o.account)) (register_of d holder) o.pool (remainder o) j _ _ _ _ (released_reserved holder j t.entries (n - 1) o m here) (released_sold holder j t.entries (n - 1) m) (v.pools holder j)))
 
-  inv_reserve : (d : Desk) (t : Tally) (was : Bool) (a : Ask) → Inv finds quota d t was → refusal_of d (reserve a) ≡ None → Next finds quota (after_reserve d a) (tallied finds (reserve a) t) was
+  inv_reserve : (d : Desk) (t : Tally) (was : Bool) (a : Request) → Inv finds quota d t was → refusal_of d (reserve a) ≡ None → Next finds quota (after_reserve d a) (tallied finds (reserve a) t) was
   inv_reserve d t was a v h =
       let f = d.figures in
       let es = t.entries in
@@ -235,7 +235,7 @@ module _ (finds : Finding) (quota : ℕ) where
       let security = line_of d.list a.code in
       let its = by_account a.account d.participants d.accounts in
       let o = held_order a (pool_for its a) in
-      let rules = passed_any (first_broken (asked_rules f security (length d.book) a)) _ h in
+      let rules = passed_any (first_broken (request_rules f security (length d.book) a)) _ h in
       let sides = passed_any (first_broken (side_faults f security d.participants d.accounts a)) None rules.1 in
       let room = asked_room f security (length d.book) a rules.0 in
       let sells = rules_part a.side (buy_rules f security a) (sell_rules its a) sides.0 in
@@ -308,11 +308,11 @@ agree d market date quota list p a book fp fa cs r =
     } in
     holds_ran (finding_of d₀) quota d₀ start r
 
-no_buy_when_shut : (d : Desk) (a : Ask) → d.figures.shut ≡ true → a.side ≡ Buy → refusal_of d (reserve a) ≡ None → ⊥
+no_buy_when_shut : (d : Desk) (a : Request) → d.figures.shut ≡ true → a.side ≡ Buy → refusal_of d (reserve a) ≡ None → ⊥
 no_buy_when_shut d a shut buy h =
     let f = d.figures in
     let security = line_of d.list a.code in
-    let rules = passed_any (first_broken (asked_rules f security (length d.book) a)) _ h in
+    let rules = passed_any (first_broken (request_rules f security (length d.book) a)) _ h in
     let sides = passed_any (first_broken (side_faults f security d.participants d.accounts a)) None rules.1 in
     let buys : first_broken (buy_rules f security a) ≡ None = rw buy at sides.0 in
     let unnamed = passed (not (eqb a.account 0)) _ _ buys in

@@ -8,7 +8,7 @@ use Rattle.rules.specs.Rules.{kept_or}
 use Rattle.rules.specs.Sides.{by_side}
 use Rattle.registers.specs.declared.pool.Pool.{Pool}
 use Rattle.registers.specs.Meaning.{Meaning, drawn_in, opening_in, opening_of, restored_in, with_pool}
-use Rattle.orders.specs.declared.order.Ask.{Ask}
+use Rattle.orders.specs.declared.order.Request.{Request}
 use Rattle.orders.specs.Records.{remainder}
 use Rattle.gate.specs.Calls.{Call, accepted, after_end, cancel, confirm, decline, give_back, notice, refusal_of, reserve, restored_for, send, step, trade, void}
 use Rattle.gate.specs.Desks.{Desk, record_of}
@@ -47,7 +47,7 @@ end_open d n holder j =
     ap (λ x. opening_of x j) (changed o.side o.account (λ x. restored_for x o) d (after_end d n) refl refl holder) ∙
     side_open o.side (same_holder holder (holder_of o.account)) m (restored_for m o) j (with_open m o.pool (restored_in (m.pools o.pool) (remainder o)) j (restored_open (m.pools o.pool) (remainder o)))
 
-reserve_open : (d : Desk) (a : Ask) → SameOpenings d (after_reserve d a)
+reserve_open : (d : Desk) (a : Request) → SameOpenings d (after_reserve d a)
 reserve_open d a holder j =
     let m = register_of d holder in
     let k = or_zero (found m a) in

@@ -10,7 +10,7 @@ use Rattle.rules.specs.Rules.{first_broken, refusal_in}
 use Rattle.rules.specs.Sides.{by_side}
 use Rattle.registers.specs.declared.pool.Pool.{Pool}
 use Rattle.registers.specs.Meaning.{Meaning, draw_answer, draw_in, drawn, drawn_in, restored, restored_in}
-use Rattle.orders.specs.declared.order.Ask.{Ask}
+use Rattle.orders.specs.declared.order.Request.{Request}
 use Rattle.orders.proofs.Passed.{passed_any}
 use Rattle.gate.specs.Desks.{Desk, by_account}
 use Rattle.gate.specs.Reserves.{draw_rule, drawn_for, found, or_zero, sell_rules}
@@ -58,20 +58,20 @@ drawing_ok : (m : Meaning) (r : Result ℕ Refusal) (n : ℕ) → refusal_in r �
 drawing_ok m (Ok k) n h e = e
 drawing_ok m (Err x) n h e = let z : ◌≡◌ {A = ℕ} 0 1 = cc in absurd (omega arith)
 
-sell_ok : (m : Meaning) (a : Ask) → first_broken (sell_rules m a) ≡ None → refusal_in (draw_answer m (or_zero (found m a)) a.shares) ≡ None
+sell_ok : (m : Meaning) (a : Request) → first_broken (sell_rules m a) ≡ None → refusal_in (draw_answer m (or_zero (found m a)) a.shares) ≡ None
 sell_ok m a h =
     let x = passed_any (refusal_in (found m a)) _ h in
     let y = passed_any (draw_rule m (found m a) a.shares) None x.1 in
     drawing_ok m (found m a) a.shares x.0 y.0
 
-sell_drawn : (m : Meaning) (a : Ask) (k j R T R' T' : ℕ) → first_broken (sell_rules m a) ≡ None → k ≡ or_zero (found m a) → R' ≡ R + cond (eqb j k) a.shares 0 → T' ≡ T + cond (eqb j k) 0 0 → Balanced (m.pools j) R T → Balanced ((drawn_for m a).pools j) R' T'
+sell_drawn : (m : Meaning) (a : Request) (k j R T R' T' : ℕ) → first_broken (sell_rules m a) ≡ None → k ≡ or_zero (found m a) → R' ≡ R + cond (eqb j k) a.shares 0 → T' ≡ T + cond (eqb j k) 0 0 → Balanced (m.pools j) R T → Balanced ((drawn_for m a).pools j) R' T'
 sell_drawn m a k j R T R' T' ok q r t e =
     let none = cond_none (eqb j k) in
     let r' : R' ≡ R + cond (eqb j (or_zero (found m a))) a.shares 0 = rw q at r in
     balanced_move ((drawn_for m a).pools j) (R + cond (eqb j (or_zero (found m a))) a.shares 0) T R' T' (omega arith) (drawn_at m (or_zero (found m a)) a.shares j R T (sell_ok m a ok) e)
 
--- A pool of a register after an accepted ask whose entry has the pool k: the ask is over its register, which may be this one.
-pub reserve_pool : (s : Side) (mine : Bool) (m its : Meaning) (a : Ask) (k j R T R' T' : ℕ) → (mine ≡ true → its ≡ m) → by_side s (Unit {0}) (first_broken (sell_rules its a) ≡ None) → k ≡ by_side s 0 (or_zero (found its a)) → R' ≡ R + cond (by_side s false (mine && eqb j k)) a.shares 0 → T' ≡ T + cond (by_side s false (mine && eqb j k)) 0 0 → Balanced (m.pools j) R T → Balanced ((by_side s m (cond mine (drawn_for m a) m)).pools j) R' T'
+-- A pool of a register after an accepted request whose entry has the pool k: the request is over its register, which may be this one.
+pub reserve_pool : (s : Side) (mine : Bool) (m its : Meaning) (a : Request) (k j R T R' T' : ℕ) → (mine ≡ true → its ≡ m) → by_side s (Unit {0}) (first_broken (sell_rules its a) ≡ None) → k ≡ by_side s 0 (or_zero (found its a)) → R' ≡ R + cond (by_side s false (mine && eqb j k)) a.shares 0 → T' ≡ T + cond (by_side s false (mine && eqb j k)) 0 0 → Balanced (m.pools j) R T → Balanced ((by_side s m (cond mine (drawn_for m a) m)).pools j) R' T'
 reserve_pool Buy mine m its a k j R T R' T' same ok q r t e = balanced_move (m.pools j) R T R' T' (omega arith) e
 reserve_pool Sell true m its a k j R T R' T' same ok q r t e =
     sell_drawn m a k j R T R' T' (subst (λ x. first_broken (sell_rules x a) ≡ None) (same refl) ok) (q ∙ ap (λ x. or_zero (found x a)) (same refl)) r t e

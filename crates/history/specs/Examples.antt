@@ -11,15 +11,14 @@ use Rattle.rules.specs.Buyings.{after_notice}
 use Rattle.rules.specs.Notices.{notice_band}
 use Rattle.rules.specs.Prices.{highest_price, lowest_price}
 use Rattle.rules.specs.Refusals.{refusal_number}
-use Rattle.rules.specs.Rules.{kept_or}
 use Rattle.tables.specs.declared.rows.Security.{Security}
 use Rattle.registers.specs.Meaning.{Meaning, pool_of}
-use Rattle.orders.specs.declared.order.Ask.{Ask}
+use Rattle.orders.specs.declared.order.Request.{Request}
 use Rattle.orders.specs.Records.{no_order}
 use Rattle.fields.specs.Examples.{FieldExamples, leading_zero, seven}
 use Rattle.fields.specs.Reading.{reading}
 use Rattle.gate.specs.declared.pass.Pass.{Pass}
-use Rattle.gate.specs.Calls.{Call, accepted, cancel, give_back, refusal_of, reserve, send, step, trade}
+use Rattle.gate.specs.Calls.{Call, called, cancel, give_back, refusal_of, reserve, send, step, trade}
 use Rattle.gate.specs.Desks.{Desk, desk}
 use Rattle.gate.specs.Opened.{opened}
 
@@ -36,16 +35,16 @@ abbrev pub day : ℕ → Desk
 day quota = desk (opened Shanghai 20240102 quota) (security ∷ []) one_pool one_pool (replicate 3 no_order)
 
 -- Participant 1 asks for so many shares at 10 yuan.
-abbrev pub ask : Side → ℕ → Ask
-ask side shares = record { participant = 1; account = 0; code = 600000; side = side; price = 1000; shares = shares }
+abbrev pub request : Side → ℕ → Request
+request side shares = record { participant = 1; account = 0; code = 600000; side = side; price = 1000; shares = shares }
 
 -- A buy at 10 yuan.
 abbrev pub buy : ℕ → Call
-buy shares = reserve (ask Buy shares)
+buy shares = reserve (request Buy shares)
 
 -- A sell at 10 yuan.
 abbrev pub sell : ℕ → Call
-sell shares = reserve (ask Sell shares)
+sell shares = reserve (request Sell shares)
 
 -- The day's pass for the order of a number.
 abbrev pub pass : ℕ → Pass
@@ -54,7 +53,7 @@ pass number = record { market = Shanghai; date = 20240102; number = number }
 -- The desk after some calls, the first of which stands first.
 abbrev pub after : Desk → List Call → Desk
 after d [] = d
-after d (c ∷ cs) = after (kept_or (refusal_of d c) d (accepted d c)) cs
+after d (c ∷ cs) = after (called d c) cs
 
 -- The call breaks no rule.
 abbrev pub Passes : Desk → Call → Type 0

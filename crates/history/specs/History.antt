@@ -4,13 +4,12 @@ use Rattle.rules.specs.declared.market.Market.{Market}
 use Rattle.rules.specs.declared.refusal.Refusal.{Refusal}
 use Rattle.rules.specs.declared.side.Side.TheVariants.{Buy}
 use Rattle.rules.specs.Phases.{phase_rules}
-use Rattle.rules.specs.Rules.{kept_or}
 use Rattle.tables.specs.declared.rows.Security.{Security}
 use Rattle.registers.specs.declared.pool.Pool.{Pool}
 use Rattle.registers.specs.Meaning.{Fresh, Meaning, opening_of}
-use Rattle.orders.specs.declared.order.Ask.{Ask}
+use Rattle.orders.specs.declared.order.Request.{Request}
 use Rattle.orders.specs.declared.order.Order.{Order}
-use Rattle.gate.specs.Calls.{Call, Did, accepted, refusal_of, reserve}
+use Rattle.gate.specs.Calls.{Call, Did, called, refusal_of, reserve}
 use Rattle.gate.specs.Closed.{NothingInFlight}
 use Rattle.gate.specs.Desks.{Desk, desk}
 use Rattle.gate.specs.Opened.{opened}
@@ -38,7 +37,7 @@ pub data Ran (d₀ : Desk) : Desk → List Call → Type 0 where
 -- The steps of a history are the calls' contracts, and nothing else: each call takes one at every desk, with one answer and
 -- one desk after it, and whatever keeps a call's contract goes on with the history.
 pub record Stepwise : Type 0 where
-  pub taken : (d : Desk) (c : Call) → Did d c (refusal_of d c) (kept_or (refusal_of d c) d (accepted d c))
+  pub taken : (d : Desk) (c : Call) → Did d c (refusal_of d c) (called d c)
   pub only : (d d' d'' : Desk) (c : Call) (answer answer' : Option Refusal) → Did d c answer d' → Did d c answer' d'' → (answer ≡ answer') × (d' ≡ d'')
   pub goes_on : (d₀ d d' : Desk) (cs : List Call) (c : Call) (answer : Option Refusal) → Ran d₀ d cs → Did d c answer d' → Ran d₀ d' (noted answer c cs)
 
@@ -71,7 +70,7 @@ pub record Law (start : Desk) (quota : ℕ) (cs : List Call) (d : Desk) : Type 0
   -- since the balance has been low, buying is shut
   pub since_shut : BeenLow (finding_of start) quota cs → d.figures.shut ≡ true
   -- a day on which buying is shut accepts no buy
-  pub no_buy : d.figures.shut ≡ true → (a : Ask) → a.side ≡ Buy → refusal_of d (reserve a) ≢ None
+  pub no_buy : d.figures.shut ≡ true → (a : Request) → a.side ≡ Buy → refusal_of d (reserve a) ≢ None
 
 -- What holds at a desk of every history that leads to it, of a day opened over any list, book and fresh registers.
 abbrev pub InEveryHistory : (Desk → ℕ → List Call → Desk → Type 0) → Desk → Type 0

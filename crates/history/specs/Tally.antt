@@ -7,7 +7,7 @@ use Rattle.rules.specs.declared.refusal.Refusal.{Refusal}
 use Rattle.rules.specs.declared.side.Side.{Side}
 use Rattle.rules.specs.declared.side.Side.TheVariants.{Buy}
 use Rattle.rules.specs.Sides.{by_side}
-use Rattle.orders.specs.declared.order.Ask.{Ask}
+use Rattle.orders.specs.declared.order.Request.{Request}
 use Rattle.gate.specs.Calls.{Call, reserve, send, void, trade, give_back, cancel, confirm, decline, step, notice, stepped}
 use Rattle.gate.specs.Desks.{by_account}
 use Rattle.gate.specs.Reserves.{or_zero}
@@ -52,12 +52,12 @@ pub record Tally : Type 0 where
 abbrev pub no_entry : Entry
 no_entry = record { side = Buy; limit = 0; holder = participants; pool = 0; reserved = 0; traded = 0; worth = 0 }
 
--- The pool that an ask finds in a register, 0 for a buy.
-abbrev pub pool_found : Finding → Ask → ℕ
+-- The pool that a request finds in a register, 0 for a buy.
+abbrev pub pool_found : Finding → Request → ℕ
 pool_found finds a = by_side a.side 0 (or_zero (finds (holder_of a.account) a.participant a.account a.code))
 
--- The entry of an ask: all its shares are still reserved.
-abbrev pub entry_for : Finding → Ask → Entry
+-- The entry of a request: all its shares are still reserved.
+abbrev pub entry_for : Finding → Request → Entry
 entry_for finds a = record { side = a.side; limit = a.price; holder = holder_of a.account; pool = pool_found finds a; reserved = a.shares; traded = 0; worth = 0 }
 
 -- The entry after a trade: so many shares are no longer reserved but traded, at a price.

@@ -1,7 +1,7 @@
-ghost use Rattle.std.specs.Prelude.{◌≡◌, IfOk, Some, None, MatchResult};
+ghost use Rattle.std.specs.Prelude.{◌≡◌, IfOk, Some, MatchResult};
 ghost use Rattle.rules.specs.Rules.{first_broken};
 ghost use Rattle.tables.specs.Tables.{lines_of};
-ghost use Rattle.gate.specs.Closed.{NothingInFlight, closing_rules};
+ghost use Rattle.gate.specs.Closed.{ClosedOver, closing_rules};
 ghost use Rattle.gate.specs.Desks.{desk};
 ghost use Rattle.history.specs.History.{Cleared};
 
@@ -11,7 +11,7 @@ use registers::Register;
 use rules::refusal::Refusal;
 use tables::table::SecurityList;
 
-// Ends the day where nothing is in flight; then, in every history that led to it and to this list, these registers and this
+// Ends the day after hours, where each of its orders is sound and done; then, in every history that led to it and to this list, these registers and this
 // book, nothing is reserved any more.
 pub fn close<P: Register, A: Register>(
     day: TradingDay,
@@ -20,7 +20,7 @@ pub fn close<P: Register, A: Register>(
     accounts: &A,
     book: &[Order],
 ) -> Result<ClosedDay, (TradingDay, Refusal)>
-    ensures answer { MatchResult result (λ closed. (first_broken (closing_rules day.figures book.now) ≡ None) × (closed.figures ≡ day.figures) × NothingInFlight closed.figures book.now) (λ back. (first_broken (closing_rules day.figures book.now) ≡ Some back.1) × (back.0.figures ≡ day.figures)) }
+    ensures answer { MatchResult result (λ closed. ClosedOver day.figures book.now closed.figures) (λ back. (first_broken (closing_rules day.figures book.now) ≡ Some back.1) × (back.0.figures ≡ day.figures)) }
     ensures law { IfOk result (λ closed. Cleared (desk closed.figures (lines_of list.now) (P.Register.meaning participants.now) (A.Register.meaning accounts.now) book.now)) }
 {
     day.close(book)

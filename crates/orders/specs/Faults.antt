@@ -28,8 +28,8 @@ abbrev pub return_faults : Order → List (Option Refusal)
 return_faults o = when (not (sound_order o)) refusal.Unsound ∷ (when (not (is_live o.state)) refusal.State ∷ [])
 
 -- Confirm and Decline: the record is sound, its cancel asked for.
-abbrev pub asked_faults : Order → List (Option Refusal)
-asked_faults o = when (not (sound_order o)) refusal.Unsound ∷ (when (not (is_asked o.state)) refusal.State ∷ [])
+abbrev pub cancel_asked_faults : Order → List (Option Refusal)
+cancel_asked_faults o = when (not (sound_order o)) refusal.Unsound ∷ (when (not (is_asked o.state)) refusal.State ∷ [])
 
 -- Cancel: the order is the participant's, the record sound, the order live and its cancel not asked for.
 abbrev pub cancel_faults : Order → ℕ → List (Option Refusal)

@@ -3,7 +3,7 @@ use Rattle.std.specs.Prelude.{ℕ, ◌+◌, ◌-◌, ◌*◌, Bool, true, false,
 use Rattle.rules.specs.declared.range.Quantity.TheVariants as quantity
 use Rattle.rules.specs.declared.side.Side.TheVariants.{Buy}
 use Rattle.rules.specs.Ranges.{in_range, range_of}
-use Rattle.orders.specs.declared.order.Ask.{Ask}
+use Rattle.orders.specs.declared.order.Request.{Request}
 use Rattle.orders.specs.declared.order.Cancel.TheVariants.{Unasked, Asked}
 use Rattle.orders.specs.declared.order.Order.{Order}
 use Rattle.orders.specs.declared.order.State.{State}
@@ -67,8 +67,8 @@ sound_order o =
 abbrev pub no_order : Order
 no_order = record { participant = 0; account = 0; code = 0; side = Buy; price = 0; shares = 0; filled = 0; returned = 0; traded = 0; pool = 0; state = Held }
 
--- The record that an accepted ask leaves, with the pool that it draws on: nothing is traded or returned yet.
-abbrev pub held_order : Ask → ℕ → Order
+-- The record that an accepted request leaves, with the pool that it draws on: nothing is traded or returned yet.
+abbrev pub held_order : Request → ℕ → Order
 held_order a pool = record { participant = a.participant; account = a.account; code = a.code; side = a.side; price = a.price; shares = a.shares; filled = 0; returned = 0; traded = 0; pool = pool; state = Held }
 
 -- The same order with other numbers for what became of it, in another state.

@@ -1,6 +1,6 @@
 ghost use Rattle.std.specs.Prelude.{◌≡◌, ◌≤◌, true, IfOk};
 ghost use Rattle.rules.specs.Rules.{first_broken, refusal_in};
-ghost use Rattle.orders.specs.Faults.{asked_faults, pass_faults, return_faults};
+ghost use Rattle.orders.specs.Faults.{cancel_asked_faults, pass_faults, return_faults};
 ghost use Rattle.orders.specs.Outcomes.{ended, freed};
 ghost use Rattle.orders.specs.Records.{most_worth, sound_order};
 
@@ -55,7 +55,7 @@ impl Order {
 
     // The market confirms the cancel that was asked for.
     pub fn confirm(self) -> Result<Outcome, Refusal>
-        ensures answer { refusal_in result ≡ first_broken (asked_faults self) }
+        ensures answer { refusal_in result ≡ first_broken (cancel_asked_faults self) }
         ensures after { IfOk result (λ x. x ≡ ended self) }
         ensures small { IfOk result (λ x. x.raise ≤ most_worth) }
     {

@@ -2,14 +2,14 @@ ghost use Rattle.std.specs.Prelude.{◌≡◌, IfOk};
 ghost use Rattle.rules.specs.Rules.{first_broken, refusal_in};
 ghost use Rattle.orders.specs.declared.order.Cancel.TheVariants as cancel;
 ghost use Rattle.orders.specs.declared.order.State.TheVariants as state;
-ghost use Rattle.orders.specs.Faults.{asked_faults, cancel_faults, pass_faults};
+ghost use Rattle.orders.specs.Faults.{cancel_asked_faults, cancel_faults, pass_faults};
 ghost use Rattle.orders.specs.Records.{held_order, with_state};
 
-use super::order::{Ask, Cancel, Order, State};
+use super::order::{Cancel, Order, Request, State};
 use rules::refusal::Refusal;
 
-impl Ask {
-    // The record of an ask that is accepted, with the pool that it draws on.
+impl Request {
+    // The record of a request that is accepted, with the pool that it draws on.
     pub fn held(self, pool: usize) -> Order
         ensures { result ≡ held_order self pool }
     {
@@ -69,7 +69,7 @@ impl Order {
 
     // The market declines the cancel that was asked for.
     pub fn decline(self) -> Result<Order, Refusal>
-        ensures answer { refusal_in result ≡ first_broken (asked_faults self) }
+        ensures answer { refusal_in result ≡ first_broken (cancel_asked_faults self) }
         ensures after { IfOk result (λ x. x ≡ with_state self (state.Live cancel.Unasked)) }
     {
         if !self.is_sound() {

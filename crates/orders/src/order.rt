@@ -21,7 +21,7 @@ pub enum State {
 
 impl State {
     // Whether the order is at the market.
-    pub fn is_live(self) -> bool
+    pub(crate) fn is_live(self) -> bool
         ensures { result ≡ is_live self }
     {
         matches!(self, State::Live(_))
@@ -46,7 +46,7 @@ pub struct Order {
 
 // What a participant asks for: the account is 0 where none is named.
 #[derive(Clone, Copy, PartialEq, Eq, Debug)]
-pub struct Ask {
+pub struct Request {
     pub participant: u64,
     pub account: u64,
     pub code: u64,

@@ -31,6 +31,7 @@ impl Phase {
             Phase::AfterHours => None,
         }
     }
+
     // Whether orders are taken in this phase.
     pub fn takes_orders(self) -> bool
         ensures { result ≡ (phase_rules self).orders }

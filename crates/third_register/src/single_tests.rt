@@ -2,7 +2,7 @@ use super::single::Single;
 use gate::day::{LoadingDay, TradingDay};
 use history::closing::close;
 use history::reading::balance;
-use orders::order::{Ask, Order};
+use orders::order::{Order, Request};
 use registers::Register;
 use rules::buying::Buying;
 use rules::price::PriceBand;
@@ -30,9 +30,9 @@ fn trading() -> Result<TradingDay, Refusal> {
     }
 }
 
-// An ask for shares of the security at 10 yuan.
-fn ask(side: Side, participant: u64, account: u64, shares: u64) -> Ask {
-    Ask {
+// A request for shares of the security at 10 yuan.
+fn request(side: Side, participant: u64, account: u64, shares: u64) -> Request {
+    Request {
         participant,
         account,
         code: 600_000,
@@ -48,11 +48,11 @@ fn sent<P: Register, A: Register>(
     participants: &mut P,
     accounts: &mut A,
     book: &mut [Order],
-    ask: Ask,
+    request: Request,
 ) -> Result<(), Refusal> {
     let mut securities = [SECURITY];
     let list = SecurityList::over(&mut securities, 1);
-    let pass = day.reserve(&list, participants, accounts, book, ask)?;
+    let pass = day.reserve(&list, participants, accounts, book, request)?;
     day.send(book, pass)
 }
 
@@ -78,8 +78,14 @@ fn a_sell_draws_on_the_register_that_it_names(rt: HostRuntime) -> Result<(), Fai
         (102, 80_000_002, 1, Err(Refusal::Account), 0, 0),
         (101, 80_000_001, 1, Err(Refusal::NoPosition), 0, 0),
     ] {
-        let ask = ask(Side::Sell, participant, account, shares);
-        let given = sent(&mut day, &mut participants, &mut accounts, &mut book, ask);
+        let request = request(Side::Sell, participant, account, shares);
+        let given = sent(
+            &mut day,
+            &mut participants,
+            &mut accounts,
+            &mut book,
+            request,
+        );
         assert_eq!(rt;
             given,
             answer,
@@ -102,12 +108,12 @@ fn three_sent(
     accounts: &mut Single,
     book: &mut [Order],
 ) -> Result<(), Refusal> {
-    for ask in [
-        ask(Side::Sell, 101, 0, 500),
-        ask(Side::Sell, 102, 80_000_001, 300),
-        ask(Side::Buy, 101, 0, 100),
+    for request in [
+        request(Side::Sell, 101, 0, 500),
+        request(Side::Sell, 102, 80_000_001, 300),
+        request(Side::Buy, 101, 0, 100),
     ] {
-        sent(day, participants, accounts, book, ask)?;
+        sent(day, participants, accounts, book, request)?;
     }
     Ok(())
 }
@@ -175,8 +181,14 @@ fn a_restore_that_a_register_refuses_is_unsound(rt: HostRuntime) -> Result<(), F
     let mut accounts = Single::new(102, 80_000_001, 600_000, 300)?;
     let mut book = [Order::default(); 1];
     let mut day = trading()?;
-    let ask = ask(Side::Sell, 101, 0, 500);
-    let taken = sent(&mut day, &mut participants, &mut accounts, &mut book, ask);
+    let request = request(Side::Sell, 101, 0, 500);
+    let taken = sent(
+        &mut day,
+        &mut participants,
+        &mut accounts,
+        &mut book,
+        request,
+    );
     let to_fresh = day.give_back(&mut fresh, &mut accounts, &mut book, 1);
     let to_another = day.give_back(&mut of_another_code, &mut accounts, &mut book, 1);
     let to_its_own = day.give_back(&mut participants, &mut accounts, &mut book, 1);

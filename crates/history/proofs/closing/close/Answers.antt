@@ -7,4 +7,4 @@ made-from (Ok x) P Q R f h = f x h
 made-from (Err e) P Q R f h = tt
 
 pub returns-clause-law : goal.returns-clause-law
-returns-clause-law g c = made-from c.close.result _ _ _ (λ closed h. at_close _ h.2) c.close.ensures
+returns-clause-law g c = made-from c.close.result _ _ _ (λ closed h. at_close _ h.flight) c.close.ensures

@@ -4,10 +4,10 @@ ghost use Rattle.tables.specs.Tables.{lines_of};
 ghost use Rattle.tables.specs.Rows.{security_present};
 ghost use Rattle.gate.specs.Balances.{most_orders};
 ghost use Rattle.gate.specs.Desks.{line_of};
-ghost use Rattle.gate.specs.Reserves.{asked_rules, beyond_limits, buy_rules};
+ghost use Rattle.gate.specs.Reserves.{request_rules, beyond_limits, buy_rules};
 
 use super::figures::Figures;
-use orders::order::Ask;
+use orders::order::Request;
 use rules::range::Quantity;
 use rules::refusal::Refusal;
 use tables::rows::Security;
@@ -32,15 +32,15 @@ fn is_beyond_limits(security: Security, price: u64) -> bool
     price < security.band.lowest(security.close) || price > security.band.highest(security.close)
 }
 
-// The listed security of an ask that keeps the rules of every ask.
+// The listed security of a request that keeps the rules of every request.
 pub(super) fn security_for(
     f: Figures,
     list: &SecurityList,
     room: usize,
-    ask: Ask,
+    request: Request,
 ) -> Result<Security, Refusal>
-    ensures answer { refusal_in result ≡ first_broken (asked_rules f (line_of (lines_of list.now) ask.code) room ask) }
-    ensures line { IfOk result (λ s. line_of (lines_of list.now) ask.code ≡ Some s) }
+    ensures answer { refusal_in result ≡ first_broken (request_rules f (line_of (lines_of list.now) request.code) room request) }
+    ensures line { IfOk result (λ s. line_of (lines_of list.now) request.code ≡ Some s) }
     ensures present { IfOk result (λ s. security_present s ≡ true) }
     ensures few { IfOk result (λ s. f.count < most_orders) }
 {
@@ -50,24 +50,24 @@ pub(super) fn security_for(
     if f.count >= room as u64 || f.count >= MOST_ORDERS {
         return Err(Refusal::Full);
     }
-    let security = line_of(list, ask.code).ok_or(Refusal::Code)?;
-    if is_beyond_limits(security, ask.price) {
+    let security = line_of(list, request.code).ok_or(Refusal::Code)?;
+    if is_beyond_limits(security, request.price) {
         return Err(Refusal::Price);
     }
-    if !ask.side.lot().has(ask.shares) {
+    if !request.side.lot().has(request.shares) {
         return Err(Refusal::Lot);
     }
-    if !Quantity::Participant.has(ask.participant) {
+    if !Quantity::Participant.has(request.participant) {
         return Err(Refusal::Account);
     }
     Ok(security)
 }
 
 // Whether a buy keeps the further rules of its side.
-pub(super) fn check_buy(f: Figures, security: Security, ask: Ask) -> Result<(), Refusal>
-    ensures { refusal_in result ≡ first_broken (buy_rules f (Some security) ask) }
+pub(super) fn check_buy(f: Figures, security: Security, request: Request) -> Result<(), Refusal>
+    ensures { refusal_in result ≡ first_broken (buy_rules f (Some security) request) }
 {
-    if ask.account != 0 {
+    if request.account != 0 {
         return Err(Refusal::Account);
     }
     if let Some(refusal) = security.buying.refusal() {

@@ -1,4 +1,4 @@
--- What the value of an accepted ask is at the most.
+-- What the value of an accepted request is at the most.
 use Rattle.std.proofs.Common.{◌≡◌, ℕ, ◌+◌, ◌*◌, ◌≤◌, true, not, ◌||◌, ltb, leb, Some, None, Option, sym, le_trans, mul-le-mul, arith, lit≤}
 use Rattle.std.proofs.lemmas.Bool.{and_parts, ltb-false, not-false, or_parts}
 use Rattle.rules.specs.declared.price.PriceBand.{PriceBand}
@@ -13,12 +13,12 @@ use Rattle.rules.specs.Rules.{first_broken}
 use Rattle.rules.specs.Sides.{side_rules}
 use Rattle.tables.specs.declared.rows.Security.{Security}
 use Rattle.tables.specs.Rows.{security_present}
-use Rattle.orders.specs.declared.order.Ask.{Ask}
+use Rattle.orders.specs.declared.order.Request.{Request}
 use Rattle.orders.proofs.Passed.{passed}
 use Rattle.orders.proofs.Sound.{in_ends}
 use Rattle.gate.specs.declared.figures.Figures.{Figures}
 use Rattle.gate.specs.Balances.{most_balance, most_orders}
-use Rattle.gate.specs.Reserves.{asked_rules, beyond_limits}
+use Rattle.gate.specs.Reserves.{request_rules, beyond_limits}
 
 percent_most : (b : PriceBand) → 100 + band_percent b ≤ 110
 percent_most Five = lit≤ tt
@@ -35,10 +35,10 @@ lot_most : (side : Side) (shares : ℕ) → in_range (side_rules side).lot share
 lot_most Buy shares e = (in_ends (side_rules Buy).lot shares e).1
 lot_most Sell shares e = (in_ends (side_rules Sell).lot shares e).1
 
--- the value of an ask that keeps the rules of every ask is within the balance's bounds
-pub asked_worth : (f : Figures) (line : Option Security) (s : Security) (room : ℕ) (a : Ask) → line ≡ Some s → security_present s ≡ true → None ≡ first_broken (asked_rules f line room a) → a.price * a.shares ≤ most_balance
-asked_worth f line s room a e p h =
-    let kept : first_broken (asked_rules f (Some s) room a) ≡ None = sym (rw e at h) in
+-- the value of a request that keeps the rules of every request is within the balance's bounds
+pub request_worth : (f : Figures) (line : Option Security) (s : Security) (room : ℕ) (a : Request) → line ≡ Some s → security_present s ≡ true → None ≡ first_broken (request_rules f line room a) → a.price * a.shares ≤ most_balance
+request_worth f line s room a e p h =
+    let kept : first_broken (request_rules f (Some s) room a) ≡ None = sym (rw e at h) in
     let hours = passed (not (phase_rules f.phase).orders) _ _ kept in
     let full = passed (leb room f.count || leb most_orders f.count) _ _ hours.1 in
     let price = passed (beyond_limits s a.price) _ _ full.1 in
