@@ -1,19 +1,22 @@
 #![tactic(auto)]
 
-ghost use Rattle.std.specs.Prelude.{◌≤◌, IfOk, vec_len};
+ghost use Rattle.std.specs.Prelude.{◌≡◌, ◌+◌, ◌≤◌, IfOk, IfSome, take, vec_len};
+ghost use Rattle.desk.specs.Output.{most_input};
 
 use desk::output::{MOST_INPUT, output};
+use std::alloc::Global;
 use std::io::{Read, Write};
 
 // The most bytes that are read: one more than an input may have shows that it is too long.
 const MOST_READ: usize = MOST_INPUT + 1;
 
-// Reads standard input to its end, or until it is longer than an input may be.
-fn read_input(rt: &HostRuntime) -> anyhow::Result<Vec<u8>>
-    ensures { IfOk result (λ input. vec_len input ≤ MOST_READ) }
+// Reads a reader to its end, or until it has given one byte more than an input may have.
+fn read_input<R: Read + Drop>(heap: Global, reader: R) -> anyhow::Result<Vec<u8>>
+    ensures most { IfOk result (λ input. vec_len input ≤ most_input + 1) }
+    ensures bytes { IfOk result (λ input. IfSome (R.Read.remaining reader) (λ xs. input.items ≡ take (most_input + 1) xs)) }
 {
-    let mut input = Vec::new(rt.alloc());
-    rt.stdin().take(MOST_READ as u64).read_to_end(&mut input)?;
+    let mut input = Vec::new(heap);
+    reader.take(MOST_READ as u64).read_to_end(&mut input)?;
     // No effect at run time. `read_to_end` does not say that it keeps to the limit of `take`.
     input.truncate(MOST_READ);
     Ok(input)
@@ -21,7 +24,7 @@ fn read_input(rt: &HostRuntime) -> anyhow::Result<Vec<u8>>
 
 // Answers standard input on standard output.
 fn run(rt: &HostRuntime) -> anyhow::Result<()> {
-    let input = read_input(rt)?;
+    let input = read_input(rt.alloc(), rt.stdin())?;
     let text = output(rt.alloc(), &input)?;
     rt.stdout().write_all(&text)?;
     Ok(())
