@@ -49,7 +49,8 @@ impl<'a, R: Row> Table<'a, R> {
 impl<R: Row> Table<'_, R> {
     // The lines of the table.
     fn lines(&self) -> Lines<'_, R>
-        ensures { result.rows.now ≡ lines_of self.now }
+        ensures rows { result.rows.now ≡ lines_of self.now }
+        ensures exact { result.rising ≡ rise R.Key.cmp R.named (lines_of self.now) }
     {
         Lines {
             rows: &self.rows[..self.count],
