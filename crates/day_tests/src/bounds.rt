@@ -1,4 +1,4 @@
-use super::one_order::{Asked, answer, held, live, reserved, sent, trade, used};
+use super::one_order::{Asked, Using, answer, held, live, reserved, sent, trade, used};
 use super::turns::{opened, own_shares, request, security};
 use gate::day::TradingDay;
 use orders::order::{Cancel, Order};
@@ -35,7 +35,7 @@ fn voided(day: &mut TradingDay) -> Result<u64, Refusal> {
         request(Side::Buy, 1000, 100),
     );
     other.leave();
-    Ok(used(day, &mut [held(Side::Buy)], made?, true))
+    Ok(used(day, &mut [held(Side::Buy)], made?, Using::Void))
 }
 
 // 10^15 and 999,000 times 999,999,000,000 are 999,999,001,000,000,000: up to 10^18 there is room for 999,000,000,000.

@@ -1,4 +1,4 @@
-use super::one_order::{held, later, live, reserved, sent, used};
+use super::one_order::{Using, held, later, live, reserved, sent, used};
 use super::turns::{Call, buy, open, opened, played, request, sell, sell_for_account};
 use gate::day::TradingDay;
 use gate::figures::Figures;
@@ -80,7 +80,7 @@ fn refusals_of_a_held_order(day: &mut TradingDay) -> Result<[Option<Refusal>; 2]
         let _ = day.step();
     }
     let first = day.closing_refusal(&book);
-    used(day, &mut book, pass, true);
+    used(day, &mut book, pass, Using::Void);
     Ok([first, day.closing_refusal(&book)])
 }
 

@@ -77,8 +77,15 @@ pub(super) fn sent(
     day.send(book, pass)
 }
 
+// What a pass is handed to.
+#[derive(Clone, Copy, Debug)]
+pub(super) enum Using {
+    Send,
+    Void,
+}
+
 // Uses a pass up on a day. The registers have one pool, all of which may still be sold.
-pub(super) fn used(day: &mut TradingDay, book: &mut [Order], pass: Pass, is_void: bool) -> u64 {
+pub(super) fn used(day: &mut TradingDay, book: &mut [Order], pass: Pass, using: Using) -> u64 {
     let mut holdings = [own_shares(101, 600_000, 100)];
     let mut held = Holdings::over(&mut holdings, 1);
     let mut register = ParticipantRegister {
@@ -91,10 +98,9 @@ pub(super) fn used(day: &mut TradingDay, book: &mut [Order], pass: Pass, is_void
         holdings: &mut held_by_others,
         rule: Own,
     };
-    number_of(if is_void {
-        day.void(&mut register, &mut other, book, pass)
-    } else {
-        day.send(book, pass)
+    number_of(match using {
+        Using::Send => day.send(book, pass),
+        Using::Void => day.void(&mut register, &mut other, book, pass),
     })
 }
 

@@ -1,4 +1,6 @@
-use super::one_order::{Asked, answer, cancel, held, later, live, reserved, sent, trade, used};
+use super::one_order::{
+    Asked, Using, answer, cancel, held, later, live, reserved, sent, trade, used,
+};
 use super::turns::{opened, request};
 use gate::day::TradingDay;
 use orders::order::{Cancel, Order, State};
@@ -168,7 +170,7 @@ fn passed_on(
     day: &mut TradingDay,
     other: &mut TradingDay,
     case: &Passing,
-    is_void: bool,
+    using: Using,
 ) -> Result<u64, Refusal> {
     let mut book = [Order::default(); 1];
     sent(day, &mut book, request(Side::Buy, 1000, 100))?;
@@ -178,11 +180,11 @@ fn passed_on(
     }
     let pass = reserved(other, &mut other_book, request(Side::Buy, 1000, 100))?;
     book = [case.record];
-    Ok(used(day, &mut book[..case.rows.min(1)], pass, is_void))
+    Ok(used(day, &mut book[..case.rows.min(1)], pass, using))
 }
 
 // What a pass is answered on the day of Shanghai, 15 February 2019.
-fn passed(case: &Passing, is_void: bool) -> Result<u64, Refusal> {
+fn passed(case: &Passing, using: Using) -> Result<u64, Refusal> {
     let mut day = opened(1, 20_190_215, 1_000_000)?;
     let mut other = match opened(case.market, case.date, 1_000_000) {
         Ok(other) => other,
@@ -191,7 +193,7 @@ fn passed(case: &Passing, is_void: bool) -> Result<u64, Refusal> {
             return Err(refusal);
         }
     };
-    let answer = passed_on(&mut day, &mut other, case, is_void);
+    let answer = passed_on(&mut day, &mut other, case, using);
     day.leave();
     other.leave();
     answer
@@ -225,17 +227,17 @@ fn a_pass_is_good_for_a_held_order_of_its_day(rt: HostRuntime) -> Result<(), Fai
             of_the_day(held(Side::Sell), 0, 19),
         ),
     ] {
-        assert_eq!(rt; passed(&case, false)?, case.sent, "sent: {why}");
-        assert_eq!(rt; passed(&case, true)?, case.voided, "voided: {why}");
+        assert_eq!(rt; passed(&case, Using::Send)?, case.sent, "sent: {why}");
+        assert_eq!(rt; passed(&case, Using::Void)?, case.voided, "voided: {why}");
     }
     Ok(())
 }
 
 // Reserves an order and uses its pass up; answers the number of the pass.
-fn number_of_next(day: &mut TradingDay, book: &mut [Order], is_void: bool) -> Result<u64, Refusal> {
+fn number_of_next(day: &mut TradingDay, book: &mut [Order], using: Using) -> Result<u64, Refusal> {
     let pass = reserved(day, book, request(Side::Buy, 1000, 100))?;
     let number = pass.number();
-    used(day, book, pass, is_void);
+    used(day, book, pass, using);
     Ok(number)
 }
 
@@ -243,10 +245,10 @@ fn number_of_next(day: &mut TradingDay, book: &mut [Order], is_void: bool) -> Re
 fn orders_are_numbered_from_1_in_book_order(rt: HostRuntime) -> Result<(), Fail> {
     let mut book = [Order::default(); 3];
     let mut day = opened(1, 20_190_215, 1_000_000)?;
-    let first = number_of_next(&mut day, &mut book, false);
-    let second = number_of_next(&mut day, &mut book, true);
-    let third = number_of_next(&mut day, &mut book, false);
-    let fourth = number_of_next(&mut day, &mut book, false);
+    let first = number_of_next(&mut day, &mut book, Using::Send);
+    let second = number_of_next(&mut day, &mut book, Using::Void);
+    let third = number_of_next(&mut day, &mut book, Using::Send);
+    let fourth = number_of_next(&mut day, &mut book, Using::Send);
     day.leave();
     assert_eq!(rt; [first, second, third], [Ok(1), Ok(2), Ok(3)]);
     assert_eq!(rt; fourth, Err(Refusal::Full));
