@@ -1,7 +1,9 @@
 -- The answer to a day that is loaded, and to one that is refused.
-use Rattle.std.proofs.Common.{◌≡◌, ℕ, List, [], ◌++◌, length, Some, None, Ok, Err, Option, Result, String, string_bytes, sym, refl, ap, ◌∙◌, subst, append_assoc, append-nil, rules}
+use Rattle.std.proofs.Common.{◌≡◌, ℕ, true, List, [], ◌++◌, length, Some, None, Ok, Err, Option, Result, IfOk, OnOk, String, string_bytes, sym, refl, ap, ◌∙◌, subst, append_assoc, append-nil, rules}
 use Rattle.std.specs.declared.alloc.Global.{Global}
 use Rattle.rules.specs.declared.letter.Part.TheVariants as part
+use Rattle.rules.specs.declared.refusal.Refusal.{Refusal}
+use Rattle.rules.specs.Rules.{first_broken}
 use Rattle.fields.specs.declared.fault.DayFault.{DayFault}
 use Rattle.fields.specs.declared.fault.LineFault.{LineFault}
 use Rattle.fields.specs.declared.rest.Rest.{Rest}
@@ -12,6 +14,7 @@ use Rattle.orders.specs.declared.order.Order.{Order}
 use Rattle.gate.specs.declared.day.LoadingDay.{LoadingDay}
 use Rattle.gate.specs.declared.figures.Figures.{Figures}
 use Rattle.gate.specs.Calls.{Call}
+use Rattle.gate.specs.Closed.{closing_rules}
 use Rattle.gate.specs.Desks.{Desk}
 use Rattle.gate.specs.Opened.{OpenedBy}
 use Rattle.history.specs.History.{Law, Ran, no_call}
@@ -24,24 +27,58 @@ use Rattle.dayfile.specs.Description.{Describes, Description, described, plan_of
 use Rattle.dayfile.specs.Loads.{Holds, Load, room_of}
 use Rattle.dayfile.proofs.Law.{day_written}
 use Rattle.desk.specs.declared.event.Link.TheVariants.{Up}
-use Rattle.desk.specs.Answered.{Ended, Reaches, Stopped, late_answer}
-use Rattle.desk.specs.Effects.{Session, session}
+use Rattle.desk.specs.declared.event.Event.{Event}
+use Rattle.desk.specs.declared.event.Event.TheVariants as event
+use Rattle.desk.specs.Answered.{Answered, Ended, EndsDay, Reaches, Stopped, closing, late_answer, next}
+use Rattle.desk.specs.Effects.{Session, closes, effect, is_accepted, session, unless}
 use Rattle.desk.specs.Output.{DayAnswer, answered, desk_over, morning, refused}
 use Rattle.desk.specs.Printed.{Appends, shown_fault}
 
+-- an accepted close is one that no rule forbids
+allowed : (o : Option Refusal) → is_accepted (unless o 0) ≡ true → o ≡ None
+allowed None q = refl
+allowed (Some e) q = cc
+
+closable : (s : Session) (e : Event) → closes s e ≡ true → first_broken (closing_rules (effect s e).desk.figures (effect s e).desk.book) ≡ None
+closable s event.Close q = allowed (first_broken (closing_rules s.desk.figures s.desk.book)) q
+closable s event.Step q = cc
+closable s (event.Notice code foreign total) q = cc
+closable s (event.Link state) q = cc
+closable s (event.Request request) q = cc
+closable s (event.Trade order shares price) q = cc
+closable s (event.Return order) q = cc
+closable s (event.Confirm order) q = cc
+closable s (event.Decline order) q = cc
+closable s (event.Cancel order participant) q = cc
+
+-- where a close was accepted, no rule forbids it at the last desk
+closed_well : {s : Session} {nr : ℕ} {rest text : List ℕ} {last : Desk} {figures : Figures} → Answered s nr rest text last (Some figures) → first_broken (closing_rules last.figures last.book) ≡ None
+closed_well (next rest e more last closed q stays later) = closed_well later
+closed_well (closing rest e q shuts) = closable _ e shuts
+
+never : (o : Option Refusal) (e : Refusal) → o ≡ None → o ≡ Some e → ⊥
+never None e q r = cc
+never (Some x) e q r = cc
+
 -- what is answered up to an accepted close or the end, and then what is printed last
-pub ended : (s : Session) (nr : ℕ) (rest : List ℕ) (last : Desk) (closing : Option Rest) (before out after : String Global) → Reaches s.desk last → Appends before out (λ text. Stopped s nr rest text last closing)
-    → string_bytes after ≡ string_bytes out ++ late_answer closing → Appends before after (Ended s nr rest)
-ended s nr rest last None before out after reaches made wrote = (
+pub ended : (s : Session) (nr : ℕ) (rest : List ℕ) (last : Desk) (closing : Option Rest) (closed : Option Figures) (before out after : String Global) → Reaches s.desk last → Appends before out (λ text. Stopped s nr rest text last closing)
+    → string_bytes after ≡ string_bytes out ++ late_answer closing → EndsDay closing last.figures last.book closed → Appends before after (Ended s nr rest closed)
+ended s nr rest last None closed before out after reaches made wrote ends = (
   made.0,
   rw append-nil at wrote ∙ made.1,
-  record { last = last; answers = made.2; reaches = reaches },
+  rw ends (record { last = last; answers = made.2; reaches = reaches; ends = tt }),
 )
-ended s nr rest last (Some late) before out after reaches made wrote = (
+ended s nr rest last (Some late) (Some closed) before out after reaches made wrote ends = (
   made.0 ++ late_answer (Some late),
   wrote ∙ ap (λ (t : List ℕ). t ++ late_answer (Some late)) made.1 ∙ append_assoc (string_bytes before) made.0 (late_answer (Some late)),
-  record { last = last; answers = made.2; reaches = reaches },
+  record { last = last; answers = rw ends.figures made.2; reaches = reaches; ends = ends },
 )
+ended s nr rest last (Some late) None before out after reaches made wrote ends = absurd (never _ ends.0 (closed_well made.2) ends.1)
+
+-- what follows from two facts of an answer
+pub of_both : {X E : Type 0} (r : Result X E) (T : Type 0) (P Q : X → Type 0) → ((x : X) → T → P x → Q x) → OnOk r T → IfOk r P → IfOk r Q
+of_both (Ok x) T P Q f t p = f x t p
+of_both (Err e) T P Q f t p = tt
 
 same_plan : (r : Result Plan LineFault) (a b : Plan) → r ≡ Ok a → r ≡ Ok b → a ≡ b
 same_plan r a b p q = cc
@@ -68,8 +105,8 @@ lawful figures market date quota d book last cs o fp fa =
     (conserved last figures.market date quota d.securities (participant_meaning d.holdings) (account_meaning d.account_holdings d.designations) book fp fa cs)
 
 -- a day that is loaded is answered as its events are
-pub day_answered : (input : List ℕ) (before after : Tables) (l : Loaded) (book : List Order) (text : List ℕ) → Load input before (Ok l) after → Ended (session (desk_over l.day.figures after book) Up) l.events.line l.events.bytes.now text → DayAnswer input (room_of before) (length book) text
-day_answered input before after l book text load ended =
+pub day_answered : (input : List ℕ) (before after : Tables) (l : Loaded) (book : List Order) (closed : Option Figures) (text : List ℕ) → Load input before (Ok l) after → Ended (session (desk_over l.day.figures after book) Up) l.events.line l.events.bytes.now closed text → DayAnswer input (room_of before) (length book) closed text
+day_answered input before after l book closed text load ended =
     let figures = l.day.figures in
     let made = load.answers.0 in
     let begins = load.answers.2 in
@@ -81,7 +118,7 @@ day_answered input before after l book text load ended =
     let run = here.reaches (morning figures (described input made) book) [] no_call in
     let fresh-p : Fresh (participant_meaning (described input made).holdings) = rw (← holds.holdings) holds.participants_fresh in
     let fresh-a : Fresh (account_meaning (described input made).account_holdings (described input made).designations) = rw (← holds.account_holdings) holds.accounts_fresh in
-    answered made text load.answers.1 (record {
+    answered made closed text load.answers.1 (record {
       figures = figures;
       book = book;
       last = here.last;
@@ -91,6 +128,7 @@ day_answered input before after l book text load ended =
       answers = here.answers;
       history = run.1;
       law = lawful figures made.opening.market made.opening.date made.opening.quota (described input made) book here.last run.0 begins.opened fresh-p fresh-a run.1;
+      ends = here.ends;
     })
 
 day_fault : (r : Result Plan LineFault) (fault : DayFault) → day_at part.Day r ≡ Err fault → (f : LineFault) × (r ≡ Err f) × (record { line = f; part = part.Day } ≡ fault)
@@ -98,10 +136,10 @@ day_fault (Ok p) fault e = search rules
 day_fault (Err f) fault e = (f, refl, cc)
 
 -- a day that is refused is answered by its fault
-pub day_refused : (input : List ℕ) (before after : Tables) (day : LoadingDay) (fault : DayFault) (orders : ℕ) → Load input before (Err (day, fault)) after → DayAnswer input (room_of before) orders (shown_fault fault)
+pub day_refused : (input : List ℕ) (before after : Tables) (day : LoadingDay) (fault : DayFault) (orders : ℕ) → Load input before (Err (day, fault)) after → DayAnswer input (room_of before) orders None (shown_fault fault)
 day_refused input before after day fault orders load =
     let f = day_fault (day_part input (room_of before)) fault load.answers in
-    subst (λ (x : DayFault). DayAnswer input (room_of before) orders (shown_fault x)) f.2 (refused f.0 f.1)
+    subst (λ (x : DayFault). DayAnswer input (room_of before) orders None (shown_fault x)) f.2 (refused f.0 f.1)
 
 -- what is written where nothing was
 pub from_nothing : (P : List ℕ → Type 0) (before after : String Global) → string_bytes before ≡ [] → Appends before after P → P (string_bytes after)

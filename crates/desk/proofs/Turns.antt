@@ -1,5 +1,5 @@
 -- One turn of the event loop.
-use Rattle.std.proofs.Common.{◌≡◌, ℕ, ◌+◌, ◌<◌, ◌≤◌, true, false, cond, eqb, leb, List, [], ◌∷◌, ◌++◌, length, get_or, drop, Ok, Err, Result, append_assoc, append-nil, refl, ap, ◌∙◌, arith, rules, String, string_bytes}
+use Rattle.std.proofs.Common.{◌≡◌, ℕ, ◌+◌, ◌<◌, ◌≤◌, true, false, cond, eqb, leb, List, [], ◌∷◌, ◌++◌, length, get_or, drop, Some, None, Ok, Err, Option, Result, append_assoc, append-nil, refl, ap, ◌∙◌, arith, rules, String, string_bytes}
 use Rattle.std.specs.declared.alloc.Global.{Global}
 use Rattle.std.proofs.lemmas.Bool.{le-leb}
 use Rattle.rules.specs.declared.letter.Letter.{Letter}
@@ -8,6 +8,7 @@ use Rattle.fields.specs.declared.fault.DayFault.{DayFault}
 use Rattle.fields.specs.declared.fault.FieldFault.{FieldFault}
 use Rattle.fields.specs.Faults.{day_at, line_at}
 use Rattle.fields.specs.Layout.{width_of}
+use Rattle.gate.specs.declared.figures.Figures.{Figures}
 use Rattle.gate.specs.Desks.{Desk}
 use Rattle.desk.specs.declared.event.Event.{Event}
 use Rattle.desk.specs.Answered.{Answered, after_close, closing, event_answer, faulty, next, over}
@@ -30,7 +31,7 @@ counted_on l e bytes nr nr' same long n = n ∙ ap (λ b. cond b (nr + 1) nr) (a
 
 -- what is answered so far goes on to what is answered in the end
 abbrev pub Goes : Session → ℕ → List ℕ → List ℕ → Session → ℕ → List ℕ → Type 0
-Goes s₀ nr₀ rest₀ text s nr rest = (more : List ℕ) (last : Desk) → Answered s nr rest more last → Answered s₀ nr₀ rest₀ (text ++ more) last
+Goes s₀ nr₀ rest₀ text s nr rest = (more : List ℕ) (last : Desk) (closed : Option Figures) → Answered s nr rest more last closed → Answered s₀ nr₀ rest₀ (text ++ more) last closed
 
 -- what is written behind a text that was written behind another
 behind : (before out after : String Global) (text more : List ℕ) → string_bytes out ≡ string_bytes before ++ text → string_bytes after ≡ string_bytes out ++ more → string_bytes after ≡ string_bytes before ++ (text ++ more)
@@ -51,24 +52,24 @@ module _ (s₀ : Session) (nr₀ : ℕ) (rest₀ : List ℕ) (s : Session) (nr :
     one_more stays = (
       so_far.0 ++ event_answer s e,
       behind before out after so_far.0 (event_answer s e) so_far.1 wrote,
-      λ more last answered. rw (append_assoc so_far.0 (event_answer s e) more) (so_far.2 _ last (next rest e more last (event_ok _ _ nr e q) stays (rw (a, n, r) at answered))),
+      λ more last closed answered. rw (append_assoc so_far.0 (event_answer s e) more) (so_far.2 _ last closed (next rest e more last closed (event_ok _ _ nr e q) stays (rw (a, n, r) at answered))),
     )
 
-    pub at_close : closes s e ≡ true → Appends before after (λ text. Answered s₀ nr₀ rest₀ (text ++ after_close nr' rest') s'.desk)
+    pub at_close : closes s e ≡ true → Appends before after (λ text. Answered s₀ nr₀ rest₀ (text ++ after_close nr' rest') s'.desk (Some s'.desk.figures))
     at_close shuts = (
       so_far.0 ++ event_answer s e,
       behind before out after so_far.0 (event_answer s e) so_far.1 wrote,
-      rw (append_assoc so_far.0 (event_answer s e) (after_close nr' rest'), a, n, r) (so_far.2 _ _ (closing rest e (event_ok _ _ nr e q) shuts)),
+      rw (append_assoc so_far.0 (event_answer s e) (after_close nr' rest'), a, n, r) (so_far.2 _ _ _ (closing rest e (event_ok _ _ nr e q) shuts)),
     )
 
   pub at_fault : (fault : DayFault) (after : String Global) → false ≡ eqb (length rest) 0 → Err fault ≡ day_at part.Event (line_at (get_or rest 0 0) nr (event_of rest))
-      → string_bytes after ≡ string_bytes out ++ shown_fault fault → Appends before after (λ text. Answered s₀ nr₀ rest₀ text s.desk)
+      → string_bytes after ≡ string_bytes out ++ shown_fault fault → Appends before after (λ text. Answered s₀ nr₀ rest₀ text s.desk None)
   at_fault fault after some q wrote =
       let f = event_err (event_of rest) (get_or rest 0 0) nr fault q in (
         so_far.0 ++ shown_fault fault,
         behind before out after so_far.0 (shown_fault fault) so_far.1 wrote,
-        rw f.2 (so_far.2 _ s.desk (faulty rest f.0 (some_left rest some) f.1)),
+        rw f.2 (so_far.2 _ s.desk None (faulty rest f.0 (some_left rest some) f.1)),
       )
 
-  pub at_end : true ≡ eqb (length rest) 0 → Appends before out (λ text. Answered s₀ nr₀ rest₀ text s.desk)
-  at_end e = (so_far.0, so_far.1, rw append-nil at (so_far.2 [] s.desk (rw (none_left rest e) over)))
+  pub at_end : true ≡ eqb (length rest) 0 → Appends before out (λ text. Answered s₀ nr₀ rest₀ text s.desk None)
+  at_end e = (so_far.0, so_far.1, rw append-nil at (so_far.2 [] s.desk None (rw (none_left rest e) over)))

@@ -1,5 +1,5 @@
 -- The whole answer to an input.
-use Rattle.std.specs.Prelude.{◌≡◌, ℕ, ◌<◌, ◌≤◌, List, length, drop, Ok, Err}
+use Rattle.std.specs.Prelude.{◌≡◌, ℕ, ◌<◌, ◌≤◌, List, length, drop, None, Ok, Err, Option, IfSome}
 use Rattle.rules.specs.declared.letter.Part.TheVariants as part
 use Rattle.rules.specs.declared.refusal.Refusal.TheVariants as refusal
 use Rattle.rules.specs.Refusals.{refusal_number}
@@ -9,6 +9,7 @@ use Rattle.registers.specs.Registers.{account_meaning, participant_meaning}
 use Rattle.orders.specs.declared.order.Order.{Order}
 use Rattle.gate.specs.declared.figures.Figures.{Figures}
 use Rattle.gate.specs.Calls.{Call}
+use Rattle.gate.specs.Closed.{ClosedOver}
 use Rattle.gate.specs.Desks.{Desk, desk}
 use Rattle.gate.specs.Opened.{OpenedBy}
 use Rattle.history.specs.History.{Law, Ran}
@@ -41,25 +42,27 @@ desk_over figures t book = desk figures (lines_of t.securities) (participant_mea
 abbrev pub morning : Figures → Description → List Order → Desk
 morning figures d book = desk figures d.securities (participant_meaning d.holdings) (account_meaning d.account_holdings d.designations) book
 
--- A day that is answered: it opens as its day part says, its events are answered with the link up, and a history of accepted
--- calls leads to the desk that they leave, at which the law holds.
-pub record Day (input : List ℕ) (made : Plan) (orders : ℕ) (text : List ℕ) : Type 0 where
+-- A day that is answered: it opens as its day part says, its events are answered with the link up, a history of accepted
+-- calls leads to the desk that they leave, at which the law holds, and where a close was accepted the day is closed there.
+pub record Day (input : List ℕ) (made : Plan) (orders : ℕ) (closed : Option Figures) (text : List ℕ) : Type 0 where
   pub figures : Figures
   pub book : List Order
   pub last : Desk
   pub calls : List Call
   pub opens : OpenedBy made.opening.market made.opening.date made.opening.quota figures
   pub rows : length book ≡ orders
-  pub answers : Answered (session (morning figures (described input made) book) Up) made.line (drop made.events input) text last
+  pub answers : Answered (session (morning figures (described input made) book) Up) made.line (drop made.events input) text last closed
   pub history : Ran (morning figures (described input made) book) last calls
   pub law : Law (morning figures (described input made) book) made.opening.quota calls last
+  pub ends : IfSome closed (ClosedOver last.figures last.book)
 
--- The answer to a day part that fits the tables, and to its events: the fault of the day part, or the events' lines.
-pub data DayAnswer (input : List ℕ) (room : Counts) (orders : ℕ) : List ℕ → Type 0 where
-  refused : (f : LineFault) → day_part input room ≡ Err f → DayAnswer input room orders (shown_fault (record { line = f; part = part.Day }))
-  answered : (made : Plan) (text : List ℕ) → day_part input room ≡ Ok made → Day input made orders text → DayAnswer input room orders text
+-- The answer to a day part that fits the tables, and to its events: the fault of the day part, or the events' lines; with
+-- the figures that the day closes with, where it does.
+pub data DayAnswer (input : List ℕ) (room : Counts) (orders : ℕ) : Option Figures → List ℕ → Type 0 where
+  refused : (f : LineFault) → day_part input room ≡ Err f → DayAnswer input room orders None (shown_fault (record { line = f; part = part.Day }))
+  answered : (made : Plan) (closed : Option Figures) (text : List ℕ) → day_part input room ≡ Ok made → Day input made orders closed text → DayAnswer input room orders closed text
 
 -- The whole answer: an input that is too long gets the fault of room alone.
 pub data Output (input : List ℕ) (room : Counts) (orders : ℕ) : List ℕ → Type 0 where
   too_long : most_input < length input → Output input room orders (fault_line (refusal_number refusal.Room) 0 0 0 0)
-  judged : (text : List ℕ) → length input ≤ most_input → DayAnswer input room orders text → Output input room orders text
+  judged : (closed : Option Figures) (text : List ℕ) → length input ≤ most_input → DayAnswer input room orders closed text → Output input room orders text

@@ -1,7 +1,11 @@
-ghost use Rattle.std.specs.Prelude.{◌≡◌, ◌++◌, length, IfOk, vec_len, OnOk, string_bytes};
+ghost use Rattle.std.specs.Prelude.{◌≡◌, ◌++◌, length, Some, IfOk, MatchOption, vec_len, OnOk, string_bytes};
+ghost use Rattle.rules.specs.declared.refusal.Refusal.{Refusal as a_refusal};
+ghost use Rattle.rules.specs.Rules.{first_broken};
+ghost use Rattle.gate.specs.Closed.{ClosedOver, closing_rules};
+ghost use Rattle.dayfile.specs.DayPart.{counts};
 ghost use Rattle.dayfile.specs.Loads.{room_of};
 ghost use Rattle.desk.specs.declared.event.Link.TheVariants.{Up};
-ghost use Rattle.desk.specs.Answered.{Ended, after_close, late_answer};
+ghost use Rattle.desk.specs.Answered.{Ended, EndsDay, after_close, late_answer};
 ghost use Rattle.desk.specs.Effects.{session};
 ghost use Rattle.desk.specs.Output.{DayAnswer, Output, desk_over, program_orders, program_room};
 ghost use Rattle.desk.specs.Printed.{Appends};
@@ -34,19 +38,22 @@ const ROWS: usize = 256;
 // The rows of the program's book.
 const ORDERS: usize = 512;
 
-// Closes a day whose close was accepted as an event. A day that comes back is left where it stands.
+// Closes a day over its book, and answers the figures that it closed with; a day that comes back is left where it stands.
 fn close_day<P: Register, A: Register>(
     day: TradingDay,
     list: &SecurityList,
     participants: &P,
     accounts: &A,
     book: &[Order],
-) -> Figures
-    ensures { result ≡ day.figures }
+) -> Option<Figures>
+    ensures { MatchOption result ((e : a_refusal) × (first_broken (closing_rules day.figures book.now) ≡ Some e)) (ClosedOver day.figures book.now) }
 {
     match close(day, list, participants, accounts, book) {
-        Ok(closed) => closed.figures(),
-        Err((day, _)) => day.leave(),
+        Ok(closed) => Some(closed.figures()),
+        Err((day, _)) => {
+            day.leave();
+            None
+        }
     }
 }
 
@@ -60,7 +67,8 @@ fn answer_late(late: &Rest, out: &mut String) -> Result<(), AllocError>
     write!(out, "{}", Fault::Day(late_fault(late)))
 }
 
-// Ends a day whose events are answered: closes it, and answers what follows the close, or leaves it where it stands.
+// Ends a day whose events are answered: closes it, and answers what follows the close, or leaves it where it stands. Answers
+// the figures that it closed with, if it did.
 fn end_day<P: Register, A: Register>(
     closing: Option<Rest>,
     day: TradingDay,
@@ -69,17 +77,19 @@ fn end_day<P: Register, A: Register>(
     accounts: &A,
     book: &[Order],
     out: &mut String,
-) -> Result<(), AllocError>
-    ensures { OnOk result (string_bytes out.new ≡ string_bytes out.old ++ late_answer closing.entry) }
+) -> Result<Option<Figures>, AllocError>
+    ensures text { OnOk result (string_bytes out.new ≡ string_bytes out.old ++ late_answer closing.entry) }
+    ensures ends { IfOk result (EndsDay closing.entry day.figures book.now) }
 {
     match closing {
         Some(late) => {
-            close_day(day, list, participants, accounts, book);
-            answer_late(&late, out)
+            let closed = close_day(day, list, participants, accounts, book);
+            answer_late(&late, out)?;
+            Ok(closed)
         }
         None => {
             day.leave();
-            Ok(())
+            Ok(None)
         }
     }
 }
@@ -90,8 +100,8 @@ fn answer_loaded(
     tables: &mut Tables,
     book: &mut [Order],
     out: &mut String,
-) -> Result<(), AllocError>
-    ensures { OnOk result (Appends out.old out.new (Ended (session (desk_over loaded.entry.day.figures tables.old book.old) Up) loaded.entry.events.line loaded.entry.events.bytes.now)) }
+) -> Result<Option<Figures>, AllocError>
+    ensures { IfOk result (λ closed. Appends out.old out.new (Ended (session (desk_over loaded.entry.day.figures tables.old book.old) Up) loaded.entry.events.line loaded.entry.events.bytes.now closed)) }
 {
     let Loaded { day, events } = loaded;
     let mut session = Session {
@@ -128,27 +138,28 @@ fn answer_loaded(
     }
 }
 
-// Answers an input over lent tables and a lent book.
-fn answer(
+// Answers an input of any length over lent tables and a lent book; answers the figures that the day closed with, if it did.
+pub fn answer(
     input: &[u8],
     tables: &mut Tables,
     book: &mut [Order],
     out: &mut String,
-) -> Result<(), AllocError>
-    ensures { OnOk result (Appends out.old out.new (DayAnswer input.now (room_of tables.old) (length book.old))) }
+) -> Result<Option<Figures>, AllocError>
+    ensures { IfOk result (λ closed. Appends out.old out.new (DayAnswer input.now (room_of tables.old) (length book.old) closed)) }
 {
     match load(LoadingDay {}, input, tables) {
         Ok(loaded) => answer_loaded(loaded, tables, book, out),
         Err(back) => {
             let (LoadingDay {}, fault) = back;
-            write!(out, "{}", Fault::Day(fault))
+            write!(out, "{}", Fault::Day(fault))?;
+            Ok(None)
         }
     }
 }
 
-// The rows of the program's tables, and its book.
+// The rows of a day's tables, and of its book.
 #[derive(Drop)]
-struct ProgramRows {
+struct DayRows {
     securities: Vec<Security>,
     holdings: Vec<ParticipantHolding>,
     account_holdings: Vec<AccountHolding>,
@@ -156,33 +167,40 @@ struct ProgramRows {
     book: Vec<Order>,
 }
 
-impl ProgramRows {
-    // Rows for each of the program's tables, and for its book.
-    fn new(heap: Global) -> Result<ProgramRows, AllocError>
-        ensures { IfOk result (λ t. (vec_len t.securities ≡ program_room.securities) × (vec_len t.holdings ≡ program_room.holdings) × (vec_len t.account_holdings ≡ program_room.account_holdings) × (vec_len t.designations ≡ program_room.designations) × (vec_len t.book ≡ program_orders)) }
+impl DayRows {
+    // So many rows for each of the tables, and so many for the book.
+    fn new(heap: Global, rows: usize, orders: usize) -> Result<DayRows, AllocError>
+        ensures { IfOk result (λ t. (vec_len t.securities ≡ rows) × (vec_len t.holdings ≡ rows) × (vec_len t.account_holdings ≡ rows) × (vec_len t.designations ≡ rows) × (vec_len t.book ≡ orders)) }
     {
-        Ok(ProgramRows {
-            securities: vec![in heap; Security::default(); ROWS]?,
-            holdings: vec![in heap; ParticipantHolding::default(); ROWS]?,
-            account_holdings: vec![in heap; AccountHolding::default(); ROWS]?,
-            designations: vec![in heap; Designation::default(); ROWS]?,
-            book: vec![in heap; Order::default(); ORDERS]?,
+        Ok(DayRows {
+            securities: vec![in heap; Security::default(); rows]?,
+            holdings: vec![in heap; ParticipantHolding::default(); rows]?,
+            account_holdings: vec![in heap; AccountHolding::default(); rows]?,
+            designations: vec![in heap; Designation::default(); rows]?,
+            book: vec![in heap; Order::default(); orders]?,
         })
     }
 }
 
-// Answers an input over the program's tables and its book.
-fn answer_day(heap: Global, input: &[u8], out: &mut String) -> Result<(), AllocError>
-    ensures { OnOk result (Appends out.old out.new (DayAnswer input.now program_room program_orders)) }
+// Answers an input of any length over tables of so many rows and a book of so many orders; answers the figures that the day closed
+// with, if it did.
+pub fn replay(
+    heap: Global,
+    input: &[u8],
+    rows: usize,
+    orders: usize,
+    out: &mut String,
+) -> Result<Option<Figures>, AllocError>
+    ensures { IfOk result (λ closed. Appends out.old out.new (DayAnswer input.now (counts rows rows rows rows) orders closed)) }
 {
-    let mut rows = ProgramRows::new(heap)?;
+    let mut lent = DayRows::new(heap, rows, orders)?;
     let mut tables = Tables {
-        securities: Table::over(&mut rows.securities, 0),
-        holdings: Table::over(&mut rows.holdings, 0),
-        account_holdings: Table::over(&mut rows.account_holdings, 0),
-        designations: Table::over(&mut rows.designations, 0),
+        securities: Table::over(&mut lent.securities, 0),
+        holdings: Table::over(&mut lent.holdings, 0),
+        account_holdings: Table::over(&mut lent.account_holdings, 0),
+        designations: Table::over(&mut lent.designations, 0),
     };
-    answer(input, &mut tables, &mut rows.book, out)
+    answer(input, &mut tables, &mut lent.book, out)
 }
 
 // The whole answer to an input: in every run a history leads to the day that it leaves, and the law holds of it.
@@ -193,7 +211,7 @@ pub fn output(heap: Global, input: &[u8]) -> Result<Vec<u8>, AllocError>
     if input.len() > MOST_INPUT {
         write!(out, "{}", Fault::TooLong)?;
     } else {
-        answer_day(heap, input, &mut out)?;
+        replay(heap, input, ROWS, ORDERS, &mut out)?;
     }
     Ok(out.into_bytes())
 }

@@ -1,5 +1,5 @@
 -- The calls of a trading day: what each answers, and what it leaves.
-use Rattle.std.specs.Prelude.{◌≡◌, ℕ, ◌-◌, Bool, not, ◌&&◌, List, [], ◌∷◌, Some, None, Option, ◌==◌, slice_index_or, slice_set}
+use Rattle.std.specs.Prelude.{unwrap_or, ◌≡◌, ℕ, ◌-◌, Bool, not, ◌&&◌, List, [], ◌∷◌, Some, None, Option, ◌==◌, slice_index_or, slice_set}
 use Rattle.rules.specs.declared.phase.Phase.{Phase}
 use Rattle.rules.specs.declared.refusal.Refusal.{Refusal}
 use Rattle.rules.specs.declared.refusal.Refusal.TheVariants as refusal
@@ -38,14 +38,9 @@ pub data Call : Type 0 where
   step : Call
   notice : ℕ → ℕ → ℕ → Call
 
--- What is there, else what was before.
-abbrev pub or_before : {X : Type 0} → Option X → X → X
-or_before (Some x) before = x
-or_before None before = before
-
 -- The phase that a step leads to.
 abbrev pub stepped : Phase → Phase
-stepped phase = or_before (phase_rules phase).next phase
+stepped phase = unwrap_or (phase_rules phase).next phase
 
 -- The list where a notice of so many foreign shares in a total has reached the line at a place.
 abbrev pub noticed_at : List Security → Option ℕ → ℕ → ℕ → List Security
@@ -70,19 +65,11 @@ trade_rules d number shares price =
     ∷ (when (too_high d.figures (raise (record_of d.book number) shares price)) refusal.Unsound
     ∷ []))
 
--- Return: the number, the record, the end of its remainder.
-abbrev pub return_rules : Desk → ℕ → List (Option Refusal)
-return_rules d number =
+-- Return and Confirm: the number, the record by the call's own faults, the end of its remainder.
+abbrev pub end_rules : Desk → ℕ → (Order → List (Option Refusal)) → List (Option Refusal)
+end_rules d number faults =
     when (no_record d.figures d.book number) refusal.Order
-    ∷ (first_broken (return_faults (record_of d.book number))
-    ∷ (end_rule d.figures d.participants d.accounts (record_of d.book number)
-    ∷ []))
-
--- Confirm: the number, the record, the end of its remainder.
-abbrev pub confirm_rules : Desk → ℕ → List (Option Refusal)
-confirm_rules d number =
-    when (no_record d.figures d.book number) refusal.Order
-    ∷ (first_broken (cancel_asked_faults (record_of d.book number))
+    ∷ (first_broken (faults (record_of d.book number))
     ∷ (end_rule d.figures d.participants d.accounts (record_of d.book number)
     ∷ []))
 
@@ -124,9 +111,9 @@ refusal_of d (reserve a) = first_broken (reserve_rules d a)
 refusal_of d (send pass) = first_broken (send_rules d pass)
 refusal_of d (void pass) = first_broken (void_rules d pass)
 refusal_of d (trade number shares price) = first_broken (trade_rules d number shares price)
-refusal_of d (give_back number) = first_broken (return_rules d number)
+refusal_of d (give_back number) = first_broken (end_rules d number return_faults)
 refusal_of d (cancel number participant) = first_broken (cancel_rules d number participant)
-refusal_of d (confirm number) = first_broken (confirm_rules d number)
+refusal_of d (confirm number) = first_broken (end_rules d number cancel_asked_faults)
 refusal_of d (decline number) = first_broken (decline_rules d number)
 refusal_of d step = first_broken (wants (phase_rules d.figures.phase).next refusal.Phase ∷ [])
 refusal_of d (notice code foreign total) = first_broken (wants (listed d.list code) refusal.Code ∷ (when (unfit_notice foreign total) refusal.Foreign ∷ []))

@@ -1,23 +1,14 @@
 -- How a day closes.
 use Rattle.std.specs.Prelude.{◌≡◌, ℕ, ◌<◌, Bool, true, false, not, List, [], ◌∷◌, length, take, None, Option, nat_lt, slice_index_or}
 use Rattle.std.specs.List.{list_all}
-use Rattle.rules.specs.declared.phase.Phase.{Phase}
-use Rattle.rules.specs.declared.phase.Phase.TheVariants.{OpeningCall, OpeningCallNoCancel, Continuous, ClosingCall, AfterHours}
 use Rattle.rules.specs.declared.refusal.Refusal.{Refusal}
 use Rattle.rules.specs.declared.refusal.Refusal.TheVariants as refusal
+use Rattle.rules.specs.Phases.{phase_rules}
 use Rattle.rules.specs.Rules.{first_broken, when}
 use Rattle.orders.specs.declared.order.Order.{Order}
 use Rattle.orders.specs.declared.order.State.TheVariants.{Done}
 use Rattle.orders.specs.Records.{is_done, no_order, remainder, sound_order}
 use Rattle.gate.specs.declared.figures.Figures.{Figures}
-
--- The phase after hours.
-abbrev pub is_after_hours : Phase → Bool
-is_after_hours OpeningCall = false
-is_after_hours OpeningCallNoCancel = false
-is_after_hours Continuous = false
-is_after_hours ClosingCall = false
-is_after_hours AfterHours = true
 
 -- Each record is sound.
 abbrev pub all_sound : List Order → Bool
@@ -32,7 +23,7 @@ abbrev pub closing_rules : Figures → List Order → List (Option Refusal)
 closing_rules f book =
     when (nat_lt (length book) f.count) refusal.Unsound
     ∷ (when (not (all_sound (take f.count book))) refusal.Unsound
-    ∷ (when (not (is_after_hours f.phase)) refusal.Business
+    ∷ (when (not (phase_rules f.phase).closes) refusal.Business
     ∷ (when (not (all_done (take f.count book))) refusal.Business
     ∷ [])))
 

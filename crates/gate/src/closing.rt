@@ -5,7 +5,6 @@ ghost use Rattle.gate.specs.Closed.{ClosedOver, NothingInFlight, all_done, all_s
 use super::day::{ClosedDay, TradingDay};
 use super::figures::Figures;
 use orders::order::{Order, State};
-use rules::phase::Phase;
 use rules::refusal::Refusal;
 
 // Whether each record is sound.
@@ -36,7 +35,7 @@ impl TradingDay {
         if !are_sound(records) {
             return Some(Refusal::Unsound);
         }
-        if self.figures.phase != Phase::AfterHours || !are_done(records) {
+        if !self.figures.phase.closes() || !are_done(records) {
             return Some(Refusal::Business);
         }
         None

@@ -1,7 +1,8 @@
 #![tactic(auto)]
 
-ghost use Rattle.std.specs.Prelude.{◌≡◌, ◌+◌, ◌≤◌, IfOk, IfSome, take, vec_len};
-ghost use Rattle.desk.specs.Output.{most_input};
+ghost use Rattle.std.specs.Prelude.{◌≡◌, ◌+◌, ◌≤◌, List, ℕ, IfOk, IfSome, OnOk, take, vec_len};
+ghost use Rattle.std.specs.Io.KnownBytes.{Appends};
+ghost use Rattle.desk.specs.Output.{Output, most_input, program_orders, program_room};
 
 use desk::output::{MOST_INPUT, output};
 use std::alloc::Global;
@@ -22,12 +23,19 @@ fn read_input<R: Read + Drop>(heap: Global, reader: R) -> anyhow::Result<Vec<u8>
     Ok(input)
 }
 
+// Writes the answer to all that a reader gives behind what a writer has.
+fn answer<R: Read + Drop, W: Write>(heap: Global, reader: R, writer: &mut W) -> anyhow::Result<()>
+    ensures { OnOk result (IfSome (R.Read.remaining reader) (λ input. (text : List ℕ) × Output input program_room program_orders text × Appends (W.Write.contents writer.old) (W.Write.contents writer.new) text)) }
+{
+    let input = read_input(heap, reader)?;
+    let text = output(heap, &input)?;
+    writer.write_all(&text)?;
+    Ok(())
+}
+
 // Answers standard input on standard output.
 fn run(rt: &HostRuntime) -> anyhow::Result<()> {
-    let input = read_input(rt.alloc(), rt.stdin())?;
-    let text = output(rt.alloc(), &input)?;
-    rt.stdout().write_all(&text)?;
-    Ok(())
+    answer(rt.alloc(), rt.stdin(), &mut rt.stdout())
 }
 
 fn main(rt: HostRuntime) -> anyhow::Result<()> {

@@ -1,5 +1,5 @@
-ghost use Rattle.std.specs.Prelude.{◌≡◌};
-ghost use Rattle.orders.specs.Records.{is_live};
+ghost use Rattle.std.specs.Prelude.{◌≡◌, false};
+ghost use Rattle.orders.specs.Records.{is_live, no_order, sound_order};
 
 use rules::side::Side;
 
@@ -11,9 +11,8 @@ pub enum Cancel {
 }
 
 // Where an order stands: held at the gate, live at the market, or done.
-#[derive(Clone, Copy, PartialEq, Eq, Debug, Default)]
+#[derive(Clone, Copy, PartialEq, Eq, Debug)]
 pub enum State {
-    #[default]
     Held,
     Live(Cancel),
     Done,
@@ -29,7 +28,7 @@ impl State {
 }
 
 // The record of an order: what was asked, what became of it, and the pool that a sell draws on, 0 for a buy.
-#[derive(Clone, Copy, PartialEq, Eq, Debug, Default)]
+#[derive(Clone, Copy, PartialEq, Eq, Debug)]
 pub struct Order {
     pub participant: u64,
     pub account: u64,
@@ -42,6 +41,27 @@ pub struct Order {
     pub traded: u64,
     pub pool: usize,
     pub state: State,
+}
+
+// An empty row of a book, which is no sound record.
+impl Default for Order {
+    ghost is_default = { λ o. (o ≡ no_order) × (sound_order o ≡ false) };
+
+    fn default() -> Order {
+        Order {
+            participant: 0,
+            account: 0,
+            code: 0,
+            side: Side::Buy,
+            price: 0,
+            shares: 0,
+            filled: 0,
+            returned: 0,
+            traded: 0,
+            pool: 0,
+            state: State::Held,
+        }
+    }
 }
 
 // What a participant asks for: the account is 0 where none is named.

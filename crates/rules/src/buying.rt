@@ -7,9 +7,8 @@ use super::notice::NoticeBand;
 use super::refusal::Refusal;
 
 // Whether a security may be bought.
-#[derive(Clone, Copy, PartialEq, Eq, Debug, Default)]
+#[derive(Clone, Copy, PartialEq, Eq, Debug)]
 pub enum Buying {
-    #[default]
     Open,
     SellOnly,
     Suspended,

@@ -45,4 +45,11 @@ impl Phase {
     {
         matches!(self, Phase::OpeningCall | Phase::Continuous)
     }
+
+    // Whether the day may close in this phase.
+    pub fn closes(self) -> bool
+        ensures { result ≡ (phase_rules self).closes }
+    {
+        self == Phase::AfterHours
+    }
 }

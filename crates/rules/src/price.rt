@@ -6,9 +6,8 @@ ghost use Rattle.rules.specs.declared.refusal.Refusal.TheVariants as refusal;
 use super::refusal::Refusal;
 
 // How far a day's prices may leave the previous close, in percent.
-#[derive(Clone, Copy, PartialEq, Eq, Debug, Default)]
+#[derive(Clone, Copy, PartialEq, Eq, Debug)]
 pub enum PriceBand {
-    #[default]
     Five = 5,
     Ten = 10,
 }

@@ -3,9 +3,8 @@ ghost use Rattle.rules.specs.Sides.{side_rules};
 
 use super::range::Range;
 
-#[derive(Clone, Copy, PartialEq, Eq, Debug, Default)]
+#[derive(Clone, Copy, PartialEq, Eq, Debug)]
 pub enum Side {
-    #[default]
     Buy,
     Sell,
 }

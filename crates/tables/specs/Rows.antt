@@ -59,6 +59,14 @@ designation_key d = cond (designation_present d) (Some (pair d.account d.partici
 abbrev pub no_security : Security
 no_security = record { code = 0; buying = Open; close = 0; band = Five }
 
+-- An empty row of holdings, of the owner of number 0.
+abbrev pub no_holding : {O : Type 0} → (ℕ → O) → Holding O
+no_holding of = record { owner = of 0; code = 0; opening = 0; sellable = 0 }
+
+-- An empty row of designations.
+abbrev pub no_designation : Designation
+no_designation = record { account = 0; participant = 0 }
+
 -- The same security in another buying state.
 abbrev pub with_buying : Security → Buying → Security
 with_buying s b = record { code = s.code; buying = b; close = s.close; band = s.band }

@@ -25,11 +25,11 @@ pub trait Owner: Copy {
 }
 
 // A participant, by its number.
-#[derive(Clone, Copy, PartialEq, Eq, Debug, Default)]
+#[derive(Clone, Copy, PartialEq, Eq, Debug)]
 pub struct Participant(pub u64);
 
 // An investor's account, by its number.
-#[derive(Clone, Copy, PartialEq, Eq, Debug, Default)]
+#[derive(Clone, Copy, PartialEq, Eq, Debug)]
 pub struct Account(pub u64);
 
 impl Owner for Participant {

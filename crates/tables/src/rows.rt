@@ -1,6 +1,6 @@
-ghost use Rattle.std.specs.Prelude.{◌≡◌, ◌&&◌, nat_le};
+ghost use Rattle.std.specs.Prelude.{◌≡◌, ◌&&◌, None, nat_le};
 ghost use Rattle.rules.specs.Ranges.{in_range, range_of};
-ghost use Rattle.tables.specs.Rows.{security_present, security_key, held_present, held_key, designation_present, designation_key};
+ghost use Rattle.tables.specs.Rows.{security_present, security_key, held_present, held_key, designation_present, designation_key, no_security, no_holding, no_designation};
 
 use super::owner::{Account, Owner, Participant};
 use lookup::key::{Pair, Row};
@@ -9,7 +9,7 @@ use rules::price::PriceBand;
 use rules::range::Quantity;
 
 // A security that is traded: whether it may be bought, and what its prices are held to.
-#[derive(Clone, Copy, PartialEq, Eq, Debug, Default)]
+#[derive(Clone, Copy, PartialEq, Eq, Debug)]
 pub struct Security {
     pub code: u64,
     pub buying: Buying,
@@ -18,7 +18,7 @@ pub struct Security {
 }
 
 // What an owner holds of a security.
-#[derive(Clone, Copy, PartialEq, Eq, Debug, Default)]
+#[derive(Clone, Copy, PartialEq, Eq, Debug)]
 pub struct Holding<O> {
     pub owner: O,
     pub code: u64,
@@ -33,7 +33,7 @@ pub type AccountHolding = Holding<Account>;
 pub type ParticipantHolding = Holding<Participant>;
 
 // An account has designated a participant.
-#[derive(Clone, Copy, PartialEq, Eq, Debug, Default)]
+#[derive(Clone, Copy, PartialEq, Eq, Debug)]
 pub struct Designation {
     pub account: u64,
     pub participant: u64,
@@ -66,6 +66,46 @@ impl Designation {
         ensures { result ≡ designation_present self.now }
     {
         Quantity::Account.has(self.account) && Quantity::Participant.has(self.participant)
+    }
+}
+
+// An empty row of the security list, which is absent.
+impl Default for Security {
+    ghost is_default = { λ s. (s ≡ no_security) × (security_key s ≡ None) };
+
+    fn default() -> Security {
+        Security {
+            code: 0,
+            buying: Buying::Open,
+            close: 0,
+            band: PriceBand::Five,
+        }
+    }
+}
+
+// An empty row of holdings, which is absent.
+impl<O: Owner> Default for Holding<O> {
+    ghost is_default = { λ h. (h ≡ no_holding O.of) × (held_key O.NUMBERS O.number h ≡ None) };
+
+    fn default() -> Holding<O> {
+        Holding {
+            owner: O::of(0),
+            code: 0,
+            opening: 0,
+            sellable: 0,
+        }
+    }
+}
+
+// An empty row of designations, which is absent.
+impl Default for Designation {
+    ghost is_default = { λ d. (d ≡ no_designation) × (designation_key d ≡ None) };
+
+    fn default() -> Designation {
+        Designation {
+            account: 0,
+            participant: 0,
+        }
     }
 }
 

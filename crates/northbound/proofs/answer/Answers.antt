@@ -1,0 +1,5 @@
+use Rattle.northbound.proofs.Capped.{answered_whole}
+use Rattle.northbound.proofs.answer.Goals as goal
+
+pub returns : goal.returns
+returns g c = answered_whole (g.R.Read.remaining c.args.reader) (g.W.Write.contents c.args.writer.now) (g.W.Write.contents c.write_all.new.self) c.in_ok-input.input.items c.in_ok-text.text.items c.in_ok-input.ensures.bytes (rw c.deref.ensures.value at c.in_ok-text.ensures) (rw c.deref-2.ensures.value at c.in_ok-write_all.ensures.bytes)

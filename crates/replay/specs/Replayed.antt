@@ -1,0 +1,40 @@
+-- What a replay answers.
+use Rattle.std.specs.Prelude.{◌≡◌, ℕ, Bool, cond, ◌||◌, List, ◌++◌, length, drop, Option, nat_le, nat_lt}
+use Rattle.replay.specs.declared.outcome.Outcome.{Outcome}
+use Rattle.replay.specs.declared.outcome.Outcome.TheVariants.{Answered, NoMemory, Short, TooMany}
+use Rattle.gate.specs.declared.figures.Figures.{Figures}
+use Rattle.dayfile.specs.DayPart.{counts}
+use Rattle.desk.specs.Output.{DayAnswer}
+
+-- The most rows that each table of a replay may have: as many lines as a group may count.
+abbrev pub most_rows : ℕ
+most_rows = 16384
+
+-- The most orders that the book of a replay may have: as many as a day takes.
+abbrev pub most_orders : ℕ
+most_orders = 50000
+
+-- The number that says how a replay came out.
+abbrev pub outcome_number : Outcome → ℕ
+outcome_number Answered = 0
+outcome_number Short = 1
+outcome_number NoMemory = 2
+outcome_number TooMany = 3
+
+-- So many rows or orders are more than a replay may have.
+abbrev pub too_many : ℕ → ℕ → Bool
+too_many rows orders = nat_lt most_rows rows || nat_lt most_orders orders
+
+-- How an answer comes out that is to be written over a text: the text may be too short for it.
+abbrev pub written_as : List ℕ → List ℕ → Outcome
+written_as answer before = cond (nat_le (length answer) (length before)) Answered Short
+
+-- A text with an answer at its beginning, if it has room for it.
+abbrev pub written_over : List ℕ → List ℕ → List ℕ
+written_over answer before = cond (nat_le (length answer) (length before)) (answer ++ drop (length answer) before) before
+
+-- Where an answer is made, it answers the input over so many rows and orders, its length is told, and it is written if it fits.
+abbrev pub Written : List ℕ → ℕ → ℕ → List ℕ → List ℕ → ℕ → ℕ → Type 0
+Written input rows orders before after long number =
+    (closed : Option Figures) × (answer : List ℕ) × DayAnswer input (counts rows rows rows rows) orders closed answer
+    × (long ≡ length answer) × (after ≡ written_over answer before) × (number ≡ outcome_number (written_as answer before))
