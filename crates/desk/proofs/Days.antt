@@ -1,6 +1,5 @@
 -- The answer to a day that is loaded, and to one that is refused.
-use Rattle.std.proofs.Common.{◌≡◌, ℕ, true, List, [], ◌++◌, length, Some, None, Ok, Err, Option, Result, IfOk, OnOk, String, string_bytes, sym, refl, ap, ◌∙◌, subst, append_assoc, append-nil, rules}
-use Rattle.std.specs.declared.alloc.Global.{Global}
+use Rattle.std.proofs.Common.{◌≡◌, ℕ, true, List, [], ◌++◌, length, Some, None, Ok, Err, Option, Result, IfOk, OnOk, sym, refl, ap, ◌∙◌, subst, append_assoc, append-nil, rules}
 use Rattle.rules.specs.declared.letter.Part.TheVariants as part
 use Rattle.rules.specs.declared.refusal.Refusal.{Refusal}
 use Rattle.rules.specs.Rules.{first_broken}
@@ -61,8 +60,8 @@ never None e q r = cc
 never (Some x) e q r = cc
 
 -- what is answered up to an accepted close or the end, and then what is printed last
-pub ended : (s : Session) (nr : ℕ) (rest : List ℕ) (last : Desk) (closing : Option Rest) (closed : Option Figures) (before out after : String Global) → Reaches s.desk last → Appends before out (λ text. Stopped s nr rest text last closing)
-    → string_bytes after ≡ string_bytes out ++ late_answer closing → EndsDay closing last.figures last.book closed → Appends before after (Ended s nr rest closed)
+pub ended : (s : Session) (nr : ℕ) (rest : List ℕ) (last : Desk) (closing : Option Rest) (closed : Option Figures) (before out after : List ℕ) → Reaches s.desk last → Appends before out (λ text. Stopped s nr rest text last closing)
+    → after ≡ out ++ late_answer closing → EndsDay closing last.figures last.book closed → Appends before after (Ended s nr rest closed)
 ended s nr rest last None closed before out after reaches made wrote ends = (
   made.0,
   rw append-nil at wrote ∙ made.1,
@@ -70,7 +69,7 @@ ended s nr rest last None closed before out after reaches made wrote ends = (
 )
 ended s nr rest last (Some late) (Some closed) before out after reaches made wrote ends = (
   made.0 ++ late_answer (Some late),
-  wrote ∙ ap (λ (t : List ℕ). t ++ late_answer (Some late)) made.1 ∙ append_assoc (string_bytes before) made.0 (late_answer (Some late)),
+  wrote ∙ ap (λ (t : List ℕ). t ++ late_answer (Some late)) made.1 ∙ append_assoc before made.0 (late_answer (Some late)),
   record { last = last; answers = rw ends.figures made.2; reaches = reaches; ends = ends },
 )
 ended s nr rest last (Some late) None before out after reaches made wrote ends = absurd (never _ ends.0 (closed_well made.2) ends.1)
@@ -142,5 +141,5 @@ day_refused input before after day fault orders load =
     subst (λ (x : DayFault). DayAnswer input (room_of before) orders None (shown_fault x)) f.2 (refused f.0 f.1)
 
 -- what is written where nothing was
-pub from_nothing : (P : List ℕ → Type 0) (before after : String Global) → string_bytes before ≡ [] → Appends before after P → P (string_bytes after)
+pub from_nothing : (P : List ℕ → Type 0) (before after : List ℕ) → before ≡ [] → Appends before after P → P after
 from_nothing P before after e made = subst P (sym (made.1 ∙ ap (λ (t : List ℕ). t ++ made.0) e)) made.2

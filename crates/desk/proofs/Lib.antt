@@ -1,4 +1,4 @@
-pub mod Columns
+mod Filling
 pub mod Lines
 pub mod Turns
 pub mod Reached

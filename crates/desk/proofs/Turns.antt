@@ -1,6 +1,5 @@
 -- One turn of the event loop.
-use Rattle.std.proofs.Common.{◌≡◌, ℕ, ◌+◌, ◌<◌, ◌≤◌, true, false, cond, eqb, leb, List, [], ◌∷◌, ◌++◌, length, get_or, drop, Some, None, Ok, Err, Option, Result, append_assoc, append-nil, refl, ap, ◌∙◌, arith, rules, String, string_bytes}
-use Rattle.std.specs.declared.alloc.Global.{Global}
+use Rattle.std.proofs.Common.{◌≡◌, ℕ, ◌+◌, ◌<◌, ◌≤◌, true, false, cond, eqb, leb, List, [], ◌∷◌, ◌++◌, length, get_or, drop, Some, None, Ok, Err, Option, Result, append_assoc, append-nil, refl, ap, ◌∙◌, arith, rules}
 use Rattle.std.proofs.lemmas.Bool.{le-leb}
 use Rattle.rules.specs.declared.letter.Letter.{Letter}
 use Rattle.rules.specs.declared.letter.Part.TheVariants as part
@@ -34,7 +33,7 @@ abbrev pub Goes : Session → ℕ → List ℕ → List ℕ → Session → ℕ 
 Goes s₀ nr₀ rest₀ text s nr rest = (more : List ℕ) (last : Desk) (closed : Option Figures) → Answered s nr rest more last closed → Answered s₀ nr₀ rest₀ (text ++ more) last closed
 
 -- what is written behind a text that was written behind another
-behind : (before out after : String Global) (text more : List ℕ) → string_bytes out ≡ string_bytes before ++ text → string_bytes after ≡ string_bytes out ++ more → string_bytes after ≡ string_bytes before ++ (text ++ more)
+behind : (before out after : List ℕ) (text more : List ℕ) → out ≡ before ++ text → after ≡ out ++ more → after ≡ before ++ (text ++ more)
 behind before out after text more first then = search (rules, first, then, append_assoc)
 
 some_left : (rest : List ℕ) → false ≡ eqb (length rest) 0 → 0 < length rest
@@ -45,9 +44,9 @@ none_left : (rest : List ℕ) → true ≡ eqb (length rest) 0 → rest ≡ []
 none_left [] e = refl
 none_left (b ∷ bs) e = grind arith
 
-module _ (s₀ : Session) (nr₀ : ℕ) (rest₀ : List ℕ) (s : Session) (nr : ℕ) (rest : List ℕ) (before out : String Global) (so_far : Appends before out (λ text. Goes s₀ nr₀ rest₀ text s nr rest)) where
-  module _ (e : Event) (s' : Session) (nr' : ℕ) (rest' : List ℕ) (after : String Global) (q : Ok e ≡ day_at part.Event (line_at (get_or rest 0 0) nr (event_of rest))) (a : s' ≡ after_event s e) (n : nr' ≡ nr + 1) (r : rest' ≡ drop (width_of (event_letter e)) rest)
-      (wrote : string_bytes after ≡ string_bytes out ++ event_answer s e) where
+module _ (s₀ : Session) (nr₀ : ℕ) (rest₀ : List ℕ) (s : Session) (nr : ℕ) (rest : List ℕ) (before out : List ℕ) (so_far : Appends before out (λ text. Goes s₀ nr₀ rest₀ text s nr rest)) where
+  module _ (e : Event) (s' : Session) (nr' : ℕ) (rest' : List ℕ) (after : List ℕ) (q : Ok e ≡ day_at part.Event (line_at (get_or rest 0 0) nr (event_of rest))) (a : s' ≡ after_event s e) (n : nr' ≡ nr + 1) (r : rest' ≡ drop (width_of (event_letter e)) rest)
+      (wrote : after ≡ out ++ event_answer s e) where
     pub one_more : closes s e ≡ false → Appends before after (λ text. Goes s₀ nr₀ rest₀ text s' nr' rest')
     one_more stays = (
       so_far.0 ++ event_answer s e,
@@ -62,8 +61,8 @@ module _ (s₀ : Session) (nr₀ : ℕ) (rest₀ : List ℕ) (s : Session) (nr :
       rw (append_assoc so_far.0 (event_answer s e) (after_close nr' rest'), a, n, r) (so_far.2 _ _ _ (closing rest e (event_ok _ _ nr e q) shuts)),
     )
 
-  pub at_fault : (fault : DayFault) (after : String Global) → false ≡ eqb (length rest) 0 → Err fault ≡ day_at part.Event (line_at (get_or rest 0 0) nr (event_of rest))
-      → string_bytes after ≡ string_bytes out ++ shown_fault fault → Appends before after (λ text. Answered s₀ nr₀ rest₀ text s.desk None)
+  pub at_fault : (fault : DayFault) (after : List ℕ) → false ≡ eqb (length rest) 0 → Err fault ≡ day_at part.Event (line_at (get_or rest 0 0) nr (event_of rest))
+      → after ≡ out ++ shown_fault fault → Appends before after (λ text. Answered s₀ nr₀ rest₀ text s.desk None)
   at_fault fault after some q wrote =
       let f = event_err (event_of rest) (get_or rest 0 0) nr fault q in (
         so_far.0 ++ shown_fault fault,

@@ -1,7 +1,6 @@
 -- The lines that are printed, in the input's own layout.
-use Rattle.std.specs.Prelude.{◌≡◌, ℕ, List, [], ◌∷◌, ◌++◌, ℤ, Ok, Err, Result, String, string_bytes}
+use Rattle.std.specs.Prelude.{◌≡◌, ℕ, Bool, true, false, List, [], ◌∷◌, ◌++◌, replicate, decimal, ℤ, Ok, Err, Result}
 use Rattle.std.specs.Fmt.{signed_decimal}
-use Rattle.std.specs.declared.alloc.Global.{Global}
 use Rattle.rules.specs.declared.letter.Letter.{Letter}
 use Rattle.rules.specs.declared.refusal.Refusal.{Refusal}
 use Rattle.rules.specs.declared.refusal.Refusal.TheVariants as refusal
@@ -45,6 +44,15 @@ abbrev pub printed_fault : Fault → List ℕ
 printed_fault fault.TooLong = fault_line (refusal_number refusal.Room) 0 0 0 0
 printed_fault (fault.Day f) = shown_fault f
 
+-- The digits of a number, behind a minus where it is below 0.
+abbrev pub signed : Bool → ℕ → List ℕ
+signed true n = 45 ∷ decimal n
+signed false n = decimal n
+
+-- The bytes are spaces, and from a place on this text.
+abbrev pub Filled : List ℕ → ℕ → List ℕ → Type 0
+Filled bytes from text = bytes ≡ replicate from 32 ++ text
+
 -- What was printed stays, and behind it stands one more text, of which this holds.
-abbrev pub Appends : String Global → String Global → (List ℕ → Type 0) → Type 0
-Appends before after Holds = (text : List ℕ) × (string_bytes after ≡ string_bytes before ++ text) × Holds text
+abbrev pub Appends : List ℕ → List ℕ → (List ℕ → Type 0) → Type 0
+Appends before after Holds = (text : List ℕ) × (after ≡ before ++ text) × Holds text

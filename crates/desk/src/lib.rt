@@ -2,6 +2,7 @@
 #![tactic(auto)]
 
 pub mod event;
+mod line;
 pub mod output;
 mod printing;
 mod reading;

@@ -1,4 +1,4 @@
-ghost use Rattle.std.specs.Prelude.{◌≡◌, ◌++◌, length, Some, IfOk, MatchOption, vec_len, OnOk, string_bytes};
+ghost use Rattle.std.specs.Prelude.{◌≡◌, ◌++◌, length, Some, IfOk, MatchOption, vec_len, OnOk};
 ghost use Rattle.rules.specs.declared.refusal.Refusal.{Refusal as a_refusal};
 ghost use Rattle.rules.specs.Rules.{first_broken};
 ghost use Rattle.gate.specs.Closed.{ClosedOver, closing_rules};
@@ -58,13 +58,13 @@ fn close_day<P: Register, A: Register>(
 }
 
 // Answers what follows an accepted close.
-fn answer_late(late: &Rest, out: &mut String) -> Result<(), AllocError>
-    ensures { OnOk result (string_bytes out.new ≡ string_bytes out.old ++ after_close late.now.line late.now.bytes.now) }
+fn answer_late(late: &Rest, out: &mut Vec<u8>) -> Result<(), AllocError>
+    ensures { OnOk result (out.new.items ≡ out.old.items ++ after_close late.now.line late.now.bytes.now) }
 {
     if late.bytes.is_empty() {
         return Ok(());
     }
-    write!(out, "{}", Fault::Day(late_fault(late)))
+    Fault::Day(late_fault(late)).write(out)
 }
 
 // Ends a day whose events are answered: closes it, and answers what follows the close, or leaves it where it stands. Answers
@@ -76,9 +76,9 @@ fn end_day<P: Register, A: Register>(
     participants: &P,
     accounts: &A,
     book: &[Order],
-    out: &mut String,
+    out: &mut Vec<u8>,
 ) -> Result<Option<Figures>, AllocError>
-    ensures text { OnOk result (string_bytes out.new ≡ string_bytes out.old ++ late_answer closing.entry) }
+    ensures text { OnOk result (out.new.items ≡ out.old.items ++ late_answer closing.entry) }
     ensures ends { IfOk result (EndsDay closing.entry day.figures book.now) }
 {
     match closing {
@@ -99,9 +99,9 @@ fn answer_loaded(
     loaded: Loaded,
     tables: &mut Tables,
     book: &mut [Order],
-    out: &mut String,
+    out: &mut Vec<u8>,
 ) -> Result<Option<Figures>, AllocError>
-    ensures { IfOk result (λ closed. Appends out.old out.new (Ended (session (desk_over loaded.entry.day.figures tables.old book.old) Up) loaded.entry.events.line loaded.entry.events.bytes.now closed)) }
+    ensures { IfOk result (λ closed. Appends out.old.items out.new.items (Ended (session (desk_over loaded.entry.day.figures tables.old book.old) Up) loaded.entry.events.line loaded.entry.events.bytes.now closed)) }
 {
     let Loaded { day, events } = loaded;
     let mut session = Session {
@@ -143,15 +143,15 @@ pub fn answer(
     input: &[u8],
     tables: &mut Tables,
     book: &mut [Order],
-    out: &mut String,
+    out: &mut Vec<u8>,
 ) -> Result<Option<Figures>, AllocError>
-    ensures { IfOk result (λ closed. Appends out.old out.new (DayAnswer input.now (room_of tables.old) (length book.old) closed)) }
+    ensures { IfOk result (λ closed. Appends out.old.items out.new.items (DayAnswer input.now (room_of tables.old) (length book.old) closed)) }
 {
     match load(LoadingDay {}, input, tables) {
         Ok(loaded) => answer_loaded(loaded, tables, book, out),
         Err(back) => {
             let (LoadingDay {}, fault) = back;
-            write!(out, "{}", Fault::Day(fault))?;
+            Fault::Day(fault).write(out)?;
             Ok(None)
         }
     }
@@ -189,9 +189,9 @@ pub fn replay(
     input: &[u8],
     rows: usize,
     orders: usize,
-    out: &mut String,
+    out: &mut Vec<u8>,
 ) -> Result<Option<Figures>, AllocError>
-    ensures { IfOk result (λ closed. Appends out.old out.new (DayAnswer input.now (counts rows rows rows rows) orders closed)) }
+    ensures { IfOk result (λ closed. Appends out.old.items out.new.items (DayAnswer input.now (counts rows rows rows rows) orders closed)) }
 {
     let mut lent = DayRows::new(heap, rows, orders)?;
     let mut tables = Tables {
@@ -207,11 +207,11 @@ pub fn replay(
 pub fn output(heap: Global, input: &[u8]) -> Result<Vec<u8>, AllocError>
     ensures { IfOk result (λ text. Output input.now program_room program_orders text.items) }
 {
-    let mut out = String::new(heap);
+    let mut out = Vec::new(heap);
     if input.len() > MOST_INPUT {
-        write!(out, "{}", Fault::TooLong)?;
+        Fault::TooLong.write(&mut out)?;
     } else {
         replay(heap, input, ROWS, ORDERS, &mut out)?;
     }
-    Ok(out.into_bytes())
+    Ok(out)
 }

@@ -1,10 +1,11 @@
-ghost use Rattle.std.specs.Prelude.{Some};
-ghost use Rattle.desk.specs.Printed.{event_line, printed_fault};
+ghost use Rattle.std.specs.Prelude.{◌≡◌, ◌++◌, OnOk};
+ghost use Rattle.desk.specs.Printed.{event_line, fault_line, order_shown, printed_fault, refusal_shown};
 
+use super::line::Line;
 use fields::fault::DayFault;
 use rules::letter::Letter;
 use rules::refusal::Refusal;
-use std::fmt;
+use std::alloc::AllocError;
 
 // What an event is answered with: the number of its order, 0 where it has none, or its refusal; and the balance after it.
 #[derive(Clone, Copy)]
@@ -14,17 +15,28 @@ pub(crate) struct EventAnswer {
     pub(crate) balance: i64,
 }
 
-// The event's line.
-impl fmt::Display for EventAnswer {
-    ghost output = { λ a. Some (event_line a.letter a.shows a.balance) };
-
-    fn fmt<W: fmt::Write>(&self, f: &mut fmt::Formatter<W>) -> fmt::Result {
-        let letter = self.letter.byte() as char;
-        let (refusal, order) = match self.shows {
+impl EventAnswer {
+    // The refusal's number and the order's, each 0 where there is none.
+    fn numbers(&self) -> (u64, u64)
+        ensures refusal { result.0 ≡ refusal_shown self.now.shows }
+        ensures order { result.1 ≡ order_shown self.now.shows }
+    {
+        match self.shows {
             Ok(order) => (0, order),
             Err(refusal) => (refusal.number(), 0),
-        };
-        writeln!(f, "{letter}{refusal:>16}{order:>16}{:>16}", self.balance)
+        }
+    }
+
+    // Writes the event's line behind a text.
+    pub(crate) fn write(&self, out: &mut Vec<u8>) -> Result<(), AllocError>
+        ensures { OnOk result (out.new.items ≡ out.old.items ++ event_line self.now.letter self.now.shows self.now.balance) }
+    {
+        let (refusal, order) = self.numbers();
+        let mut line = Line::new();
+        line.put_balance(self.balance);
+        line.put(order);
+        line.put(refusal);
+        line.write(self.letter.byte(), out)
     }
 }
 
@@ -35,25 +47,34 @@ pub(crate) enum Fault {
     Day(DayFault),
 }
 
-// The fault's line.
-impl fmt::Display for Fault {
-    ghost output = { λ f. Some (printed_fault f) };
-
-    fn fmt<W: fmt::Write>(&self, f: &mut fmt::Formatter<W>) -> fmt::Result {
-        let (cause, column, letter, line, part) = match *self {
-            Fault::TooLong => (Refusal::Room, 0, 0, 0, 0),
-            Fault::Day(fault) => (
-                fault.line.field.cause,
-                fault.line.field.column,
-                fault.line.letter,
-                fault.line.line,
-                fault.part.number(),
+impl Fault {
+    // The cause's number, the column, the letter's byte, the line and the part's number.
+    fn numbers(&self) -> (u64, u64, u64, u64, u64)
+        ensures { fault_line result.0 result.1 result.2 result.3 result.4 ≡ printed_fault self.now }
+    {
+        match *self {
+            Fault::TooLong => (Refusal::Room.number(), 0, 0, 0, 0),
+            Fault::Day(DayFault { line, part }) => (
+                line.field.cause.number(),
+                line.field.column,
+                u64::from(line.letter),
+                line.line,
+                part.number(),
             ),
-        };
-        let cause = cause.number();
-        writeln!(
-            f,
-            "!{cause:>16}{column:>16}{letter:>16}{line:>16}{part:>16}"
-        )
+        }
+    }
+
+    // Writes the fault's line behind a text.
+    pub(crate) fn write(&self, out: &mut Vec<u8>) -> Result<(), AllocError>
+        ensures { OnOk result (out.new.items ≡ out.old.items ++ printed_fault self.now) }
+    {
+        let (cause, column, letter, line, part) = self.numbers();
+        let mut printed = Line::new();
+        printed.put(part);
+        printed.put(line);
+        printed.put(letter);
+        printed.put(column);
+        printed.put(cause);
+        printed.write(b'!', out)
     }
 }

@@ -1,4 +1,4 @@
-ghost use Rattle.std.specs.Prelude.{◌≡◌, ◌++◌, IfOk, OnOk, string_bytes};
+ghost use Rattle.std.specs.Prelude.{◌≡◌, ◌++◌, IfOk, OnOk};
 ghost use Rattle.rules.specs.Rules.{first_broken};
 ghost use Rattle.gate.specs.Closed.{closing_rules};
 ghost use Rattle.desk.specs.Answered.{Reaches, Stopped, event_answer};
@@ -127,9 +127,9 @@ impl<P: Register, A: Register> Session<'_, '_, P, A> {
     }
 
     // Does an event's work and writes its line; answers whether the day closes.
-    fn respond(&mut self, event: Event, out: &mut String) -> Result<bool, AllocError>
+    fn respond(&mut self, event: Event, out: &mut Vec<u8>) -> Result<bool, AllocError>
         ensures after { session_of P.Register.meaning A.Register.meaning self.new ≡ after_event (session_of P.Register.meaning A.Register.meaning self.old) event }
-        ensures wrote { OnOk result (string_bytes out.new ≡ string_bytes out.old ++ event_answer (session_of P.Register.meaning A.Register.meaning self.old) event) }
+        ensures wrote { OnOk result (out.new.items ≡ out.old.items ++ event_answer (session_of P.Register.meaning A.Register.meaning self.old) event) }
         ensures closing { IfOk result (λ b. b ≡ closes (session_of P.Register.meaning A.Register.meaning self.old) event) }
     {
         let shows = self.work(event);
@@ -138,7 +138,7 @@ impl<P: Register, A: Register> Session<'_, '_, P, A> {
             shows,
             balance: self.balance(),
         };
-        write!(out, "{answer}")?;
+        answer.write(out)?;
         Ok(event.has_closed(shows))
     }
 
@@ -146,10 +146,10 @@ impl<P: Register, A: Register> Session<'_, '_, P, A> {
     pub(crate) fn answer<'r>(
         &mut self,
         events: Rest<'r>,
-        out: &mut String,
+        out: &mut Vec<u8>,
     ) -> Result<Option<Rest<'r>>, AllocError>
         ensures reaches { Reaches (session_of P.Register.meaning A.Register.meaning self.old).desk (session_of P.Register.meaning A.Register.meaning self.new).desk }
-        ensures answered { IfOk result (λ late. Appends out.old out.new (λ text. Stopped (session_of P.Register.meaning A.Register.meaning self.old) events.entry.line events.entry.bytes.now text (session_of P.Register.meaning A.Register.meaning self.new).desk late)) }
+        ensures answered { IfOk result (λ late. Appends out.old.items out.new.items (λ text. Stopped (session_of P.Register.meaning A.Register.meaning self.old) events.entry.line events.entry.bytes.now text (session_of P.Register.meaning A.Register.meaning self.new).desk late)) }
     {
         let mut rest = events;
         'events: while !rest.bytes.is_empty() {
@@ -162,7 +162,7 @@ impl<P: Register, A: Register> Session<'_, '_, P, A> {
                     }
                 }
                 Err(fault) => {
-                    write!(out, "{}", Fault::Day(fault))?;
+                    Fault::Day(fault).write(out)?;
                     return Ok(None);
                 }
             }

@@ -24,9 +24,9 @@ const MOST_ORDERS: u64 = 50_000;
 fn answer(heap: Global, input: &[u8], rows: usize, orders: usize) -> Result<Vec<u8>, AllocError>
     ensures { IfOk result (λ text. (closed : Option closing) × DayAnswer input.now (counts rows rows rows rows) orders closed text.items) }
 {
-    let mut text = String::new(heap);
+    let mut text = Vec::new(heap);
     replay(heap, input, rows, orders, &mut text)?;
-    Ok(text.into_bytes())
+    Ok(text)
 }
 
 // Writes an answer at the beginning of a text, if the text has room for it.

@@ -1,6 +1,6 @@
 ghost use Rattle.std.specs.Prelude.{◌≡◌};
 ghost use Rattle.std.specs.Option.{ok_or};
-ghost use Rattle.rules.specs.Prices.{band_percent, band_of_percent, lowest_price, highest_price};
+ghost use Rattle.rules.specs.Prices.{band_percent, band_of_percent, hundredths, lowest_price, highest_price};
 ghost use Rattle.rules.specs.declared.refusal.Refusal.TheVariants as refusal;
 
 use super::refusal::Refusal;
@@ -27,6 +27,17 @@ impl TryFrom<u64> for PriceBand {
     }
 }
 
+// So many hundredths of a close, to the nearest fen, a half up.
+fn hundredths(close: u64, percent: u64) -> u128
+    ensures { result ≡ hundredths close percent }
+{
+    // A division of 64 bits where that is enough, as it is for every close in range: one of 128 bits takes much longer.
+    match close.checked_mul(percent).and_then(|n| n.checked_add(50)) {
+        Some(n) => u128::from(n / 100),
+        None => (u128::from(close) * u128::from(percent) + 50) / 100,
+    }
+}
+
 impl PriceBand {
     fn percent(self) -> u64
         ensures { result ≡ band_percent self }
@@ -38,13 +49,13 @@ impl PriceBand {
     pub fn lowest(self, close: u64) -> u128
         ensures { result ≡ lowest_price close self }
     {
-        (close as u128 * (100 - self.percent() as u128) + 50) / 100
+        hundredths(close, 100 - self.percent())
     }
 
     // The highest price of the day, in fen.
     pub fn highest(self, close: u64) -> u128
         ensures { result ≡ highest_price close self }
     {
-        (close as u128 * (100 + self.percent() as u128) + 50) / 100
+        hundredths(close, 100 + self.percent())
     }
 }

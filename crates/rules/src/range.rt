@@ -1,4 +1,4 @@
-ghost use Rattle.std.specs.Prelude.{◌≡◌};
+ghost use Rattle.std.specs.Prelude.{◌≡◌, ◌%◌, ◌&&◌, ◌==◌, nat_lt};
 ghost use Rattle.rules.specs.Ranges.{from_to, in_range, range_of};
 
 // The numbers from the least to the most, both included, that are multiples of the unit.
@@ -10,10 +10,17 @@ pub struct Range {
 }
 
 impl Range {
+    // Whether a number is a multiple of the unit. Every number is one of 1, which asks for no division.
+    fn measures(self, n: u64) -> bool
+        ensures { result ≡ (nat_lt 0 self.unit && n % self.unit == 0) }
+    {
+        self.unit == 1 || (self.unit != 0 && n % self.unit == 0)
+    }
+
     pub fn has(self, n: u64) -> bool
         ensures { result ≡ in_range self n }
     {
-        (self.least..=self.most).contains(&n) && self.unit != 0 && n % self.unit == 0
+        (self.least..=self.most).contains(&n) && self.measures(n)
     }
 }
 

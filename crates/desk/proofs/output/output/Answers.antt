@@ -6,9 +6,8 @@ use Rattle.desk.proofs.output.output.Goals as goal
 use Rattle.desk.proofs.output.output.Goals.{then-input-gt-MOST_INPUT+in_ok-write, else-input-gt-MOST_INPUT+in_ok-replay}
 
 pub returns : goal.returns
-returns c = rw c.into_bytes.ensures.value
-    (from_nothing (Output c.args.input.now program_room program_orders) c.new-out.result c.if-input-gt-MOST_INPUT.out c.new-out.ensures.bytes
+returns c = from_nothing (Output c.args.input.now program_room program_orders) c.new-out.result.items c.if-input-gt-MOST_INPUT.out.items c.new-out.ensures.items
     (elim c.if-input-gt-MOST_INPUT.branch [
-      | then-input-gt-MOST_INPUT+in_ok-write w ↦ rw w.out-is (printed_fault fault.TooLong, w.in_ok-write.ensures.bytes, too_long w.if-input-gt-MOST_INPUT.true)
+      | then-input-gt-MOST_INPUT+in_ok-write w ↦ rw w.out-is (printed_fault fault.TooLong, w.in_ok-write.ensures, too_long w.if-input-gt-MOST_INPUT.true)
       | else-input-gt-MOST_INPUT+in_ok-replay w ↦ let done = w.in_ok-replay.ensures in rw w.out-is (done.0, done.1, judged _ done.0 w.if-input-gt-MOST_INPUT.false done.2)
-    ]))
+    ])
