@@ -1,5 +1,9 @@
 -- The scan's turns, at an index of the field.
-use Rattle.std.proofs.Common.{◌≡◌, ℕ, ◌+◌, ◌^◌, ◌<◌, ◌≤◌, List, length, get_or, drop, Some, None, Ok, Err, Option, sym, ap, ◌∙◌, subst, ⊎_elim, arith}
+use Rattle.std.proofs.Common.{◌≡◌, ℕ, zero, suc, ◌+◌, ◌-◌, ◌*◌, ◌^◌, ◌<◌, ◌≤◌, ◌==◌, ◌≢◌, min, false, List, length, get_or, drop, Some, None, Ok, Err, Option, sym, refl, ap, ◌∙◌, subst, ⊎_elim, add-one, arith}
+use Rattle.std.proofs.lemmas.Bool.{eqb-true}
+use Rattle.std.proofs.lemmas.Bool.Decides.{nat_tests}
+use Rattle.std.proofs.lemmas.List.Sums.{prefix_len_passes, prefix_len_stops}
+use Rattle.std.specs.List.{prefix_len}
 use Rattle.std.proofs.lemmas.List.{drop_more, drop_all}
 use Rattle.std.proofs.lemmas.Result.{MatchResult-at_ok, MatchResult-at_err}
 use Rattle.fields.specs.Scan.{scan, step}
@@ -34,3 +38,35 @@ spelt bs n h e = MatchResult-at_ok (λ m. Spells bs m) (λ k. RulesOut bs k) n e
 
 pub ruled : (bs : List ℕ) (k : ℕ) → length bs ≡ 16 → scan 0 0 bs ≡ Err k → RulesOut bs k
 ruled bs k h e = MatchResult-at_err (λ m. Spells bs m) (λ j. RulesOut bs j) k e (scan_means bs h)
+
+-- no space and no leading zero stands here any more: a digit has come, or this byte is one, or the last place is reached
+abbrev pub Begun : ℕ → ℕ → ℕ → Type 0
+Begun n k b = n ≡ 0 → k < 15 → (b ≢ 32) × (b ≢ 48)
+
+pub digit_step : (n k b : ℕ) → Begun n k b → 48 ≤ b → b ≤ 57 → Some (n * 10 + (b - 48)) ≡ step n k b
+digit_step n k b g lo hi = grind (arith, nat_tests)
+
+pub other_step : (n k b : ℕ) → Begun n k b → (48 ≤ b → b ≤ 57 → ⊥) → None ≡ step n k b
+other_step n k b g h = grind (arith, nat_tests)
+
+pub zero_step : (k : ℕ) → k < 15 → None ≡ step 0 k 48
+zero_step k h = grind (arith, nat_tests)
+
+space_step : (k : ℕ) → k < 15 → Some 0 ≡ step 0 k 32
+space_step k h = grind (arith, nat_tests)
+
+-- spaces at the front leave the number 0
+pub past_spaces : (bs : List ℕ) (k : ℕ) → length bs ≡ 16 → k ≤ 15 → k ≤ prefix_len (λ b. b == 32) bs → scan 0 k (drop k bs) ≡ scan 0 0 bs
+past_spaces bs zero l h p = refl
+past_spaces bs (suc k) l h p =
+    let space : get_or bs k 0 ≡ 32 = eqb-true (get_or bs k 0) 32 (prefix_len_passes (λ b. b == 32) bs k 0 (omega arith)) in
+    let next = goes bs 0 k 0 (omega arith) (space_step k (omega arith) ∙ ap (step 0 k) (sym space)) in
+    rw (← add-one k) (sym next ∙ past_spaces bs k l (omega arith) (omega arith))
+
+-- the byte behind the leading spaces is no space, unless it is the last one
+pub behind_spaces : (bs : List ℕ) (k : ℕ) → length bs ≡ 16 → k < 15 → k ≡ min (prefix_len (λ b. b == 32) bs) 15 → get_or bs k 0 ≢ 32
+behind_spaces bs k l h e s =
+    let p : k ≡ prefix_len (λ b. b == 32) bs = omega arith in
+    let other = prefix_len_stops (λ b. b == 32) bs 0 (omega arith) in
+    let at : (get_or bs k 0 == 32) ≡ false = ap (λ (j : ℕ). get_or bs j 0 == 32) p ∙ other in
+    grind (arith, nat_tests)

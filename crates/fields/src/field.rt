@@ -1,14 +1,16 @@
-ghost use Rattle.std.specs.Prelude.{◌≡◌, ◌-◌, ◌^◌, ◌<◌, ◌≤◌, true, length, IfOk, Ok, Err, MatchResult};
+ghost use Rattle.std.specs.Prelude.{◌≡◌, ◌-◌, ◌≤◌, ◌==◌, min, true, length, IfOk, Ok, Err, MatchResult};
+ghost use Rattle.std.specs.List.{prefix_len};
 ghost use Rattle.rules.specs.declared.refusal.Refusal.TheVariants.{Digits};
 ghost use Rattle.rules.specs.Ranges.{in_range, range_of};
 ghost use Rattle.fields.specs.Examples.{FieldExamples};
 ghost use Rattle.fields.specs.Reading.{reading, ranging};
-ghost use Rattle.fields.specs.Scan.{scan, step};
+ghost use Rattle.fields.specs.Scan.{scan};
 ghost use Rattle.fields.specs.Written.{Spells, RulesOut};
 
 use super::fault::FieldFault;
 use rules::range::Quantity;
 use rules::refusal::Refusal;
+use std::simd::prelude::*;
 
 // Sixteen columns of a line, and the number of the first, counted from 1.
 #[derive(Clone, Copy)]
@@ -51,25 +53,29 @@ fn digits(bytes: &[u8; 16]) -> Result<u64, usize>
     ensures is { result ≡ scan 0 0 bytes.now }
     ensures means { MatchResult result (λ n. Spells bytes.now n) (λ k. RulesOut bytes.now k) }
 {
+    let start = leading_spaces(bytes);
+    if start < 15 && bytes[start] == b'0' {
+        return Err(start);
+    }
     let mut n: u64 = 0;
-    for (i, &b) in bytes.iter().enumerate() {
-        n = carry(n, i, b).ok_or(i)?;
+    for i in start..16 {
+        let b = bytes[i];
+        if !b.is_ascii_digit() {
+            return Err(i);
+        }
+        n = n * 10 + u64::from(b - b'0');
     }
     Ok(n)
 }
 
-// What the byte at place i makes of the number so far, which is 0 while there were only spaces: none where it rules
-// every written form out.
-fn carry(n: u64, i: usize, b: u8) -> Option<u64>
-    requires { n < 10 ^ 16 }
-    ensures { result ≡ step n i b }
+// How many spaces the bytes begin with, the last byte aside. All sixteen are compared at once.
+fn leading_spaces(bytes: &[u8; 16]) -> usize
+    ensures { result ≡ min (prefix_len (λ b. b == 32) bytes.now) 15 }
 {
-    match b {
-        b' ' if n == 0 && i < 15 => Some(0),
-        b'0' if n == 0 && i < 15 => None,
-        b'0'..=b'9' => Some(n * 10 + u64::from(b - b'0')),
-        _ => None,
-    }
+    let others = u8x16::from_array(*bytes)
+        .simd_ne(u8x16::splat(b' '))
+        .to_bitmask();
+    (others.trailing_zeros() as usize).min(15)
 }
 
 // Two examples of a first field: fifteen spaces and 7, fourteen spaces and 07.
