@@ -1,5 +1,5 @@
 use Rattle.std.proofs.Common.{◌≡◌, ◌++◌, take, vec_items}
-use Rattle.day_tests.proofs.answering.check_cuts.Given as goal
+use Rattle.day_tests.proofs.cutting.check_cuts.Given as goal
 
 -- The bytes so far stand behind the input.
 abbrev pub invariant-loop-b : goal.invariant-loop-b
