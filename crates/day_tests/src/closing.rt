@@ -1,4 +1,4 @@
-use super::one_order::{Using, held, later, live, reserved, sent, used};
+use super::one_order::{Using, held, later, live, made, reserved, used};
 use super::turns::{Call, buy, open, opened, played, request, sell, sell_for_account};
 use gate::day::TradingDay;
 use gate::figures::Figures;
@@ -14,8 +14,8 @@ use std::test::Fail;
 fn closed_over(steps: u8, book: &[Order]) -> Result<(u64, bool), Refusal> {
     let mut day = opened(1, 20_190_215, 1_000_000)?;
     let mut rows = [Order::default(); 2];
-    let first = sent(&mut day, &mut rows, request(Side::Buy, 1000, 100));
-    let second = sent(&mut day, &mut rows, request(Side::Buy, 1000, 100));
+    let first = made(&mut day, &mut rows, buy(1000, 100));
+    let second = made(&mut day, &mut rows, buy(1000, 100));
     for _ in 0..steps {
         let _ = day.step();
     }

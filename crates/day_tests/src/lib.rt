@@ -28,4 +28,6 @@ mod records;
 #[cfg(test)]
 mod reserving;
 #[cfg(test)]
+mod rows;
+#[cfg(test)]
 mod turns;

@@ -1,7 +1,5 @@
-use super::one_order::{
-    Asked, Using, answer, cancel, held, later, live, reserved, sent, trade, used,
-};
-use super::turns::{opened, request};
+use super::one_order::{Using, answer, cancel, held, later, live, made, reserved, trade, used};
+use super::turns::{Call, buy, opened, request};
 use gate::day::TradingDay;
 use orders::order::{Cancel, Order, State};
 use rules::refusal::Refusal;
@@ -10,13 +8,13 @@ use std::test::Fail;
 
 // What a call on order 1 is answered, on a day that has taken one order, where the book has another record in its
 // place; and whether the book and the figures stay as they were.
-fn answer_over(record: Order, asked: Asked) -> Result<(u64, bool), Refusal> {
+fn answer_over(record: Order, call: Call) -> Result<(u64, bool), Refusal> {
     let mut day = opened(1, 20_190_215, 100_000)?;
     let mut book = [Order::default(); 1];
-    let taken = sent(&mut day, &mut book, request(Side::Buy, 1000, 100));
+    let taken = made(&mut day, &mut book, buy(1000, 100));
     let before = day.figures();
     book = [record];
-    let answer = answer(&mut day, &mut book, 1, asked);
+    let answer = answer(&mut day, &mut book, call);
     let same = day.leave() == before && book == [record];
     taken?;
     Ok((answer, same))
@@ -31,14 +29,14 @@ fn of(order: Order, price: u64, shares: u64) -> Order {
     }
 }
 
-// A call of each kind, that fits a live order of participant 101.
-fn every_call() -> [Asked; 5] {
+// A call of each kind on the number of an order, that fits a live order of participant 101.
+fn every_call(number: u64) -> [Call; 5] {
     [
-        trade(1, 1000),
-        Asked::Return,
-        cancel(101),
-        Asked::Confirm,
-        Asked::Decline,
+        Call::Trade(number, 1, 1000),
+        Call::Return(number),
+        Call::Cancel(number, 101),
+        Call::Confirm(number),
+        Call::Decline(number),
     ]
 }
 
@@ -57,7 +55,7 @@ fn a_broken_record_is_unsound_to_every_call(rt: HostRuntime) -> Result<(), Fail>
         ("live with none left", later(sound, 60, 40, 0, state)),
         ("done with some left", later(sound, 60, 39, 0, State::Done)),
     ] {
-        for call in every_call() {
+        for call in every_call(1) {
             assert_eq!(rt; answer_over(record, call)?, (19, true), "{why}: {call:?}");
         }
     }
@@ -82,30 +80,34 @@ fn of_two_rules_that_a_call_breaks_the_first_is_answered(rt: HostRuntime) -> Res
         ("order and state", done, cancel(102), 13),
         ("record and state of a cancel", broken, cancel(101), 19),
         ("record and state of a trade", broken, trade(0, 1000), 19),
-        ("record and state of a return", broken, Asked::Return, 19),
-        ("record and state of a decline", broken, Asked::Decline, 19),
+        ("record and state of a return", broken, Call::Return(1), 19),
+        (
+            "record and state of a decline",
+            broken,
+            Call::Decline(1),
+            19,
+        ),
         ("state and fill", held(Side::Buy), trade(0, 1000), 14),
         ("done, and no fill", done, trade(0, 1000), 14),
         ("no fill", buy, trade(0, 1000), 15),
-        ("state and restore", held(Side::Sell), Asked::Return, 14),
-        ("not asked, and restore", sell, Asked::Confirm, 14),
-        ("the restore of a return", sell, Asked::Return, 19),
-        ("the restore of a confirmation", asked, Asked::Confirm, 19),
-        ("the restore to no pool", of_no_pool, Asked::Return, 19),
-        ("the restore to an account", of_account, Asked::Return, 19),
+        ("state and restore", held(Side::Sell), Call::Return(1), 14),
+        ("not asked, and restore", sell, Call::Confirm(1), 14),
+        ("the restore of a return", sell, Call::Return(1), 19),
+        ("the restore of a confirmation", asked, Call::Confirm(1), 19),
+        ("the restore to no pool", of_no_pool, Call::Return(1), 19),
+        ("the restore to an account", of_account, Call::Return(1), 19),
     ] {
         assert_eq!(rt; answer_over(record, call)?, (answer, true), "{why}");
     }
     Ok(())
 }
 
-// What a call on the number of an order is answered on a day that has taken one order, over the first rows of a book of
-// two.
-fn answer_to_number(number: u64, rows: usize, asked: Asked) -> Result<u64, Refusal> {
+// What a call is answered on a day that has taken one order, over the first rows of a book of two.
+fn answer_in_rows(rows: usize, call: Call) -> Result<u64, Refusal> {
     let mut day = opened(1, 20_190_215, 100_000)?;
     let mut book = [live(Side::Buy, Cancel::Asked); 2];
-    let taken = sent(&mut day, &mut book, request(Side::Buy, 1000, 100));
-    let answer = answer(&mut day, &mut book[..rows.min(2)], number, asked);
+    let taken = made(&mut day, &mut book, buy(1000, 100));
+    let answer = answer(&mut day, &mut book[..rows.min(2)], call);
     day.leave();
     taken?;
     Ok(answer)
@@ -119,8 +121,8 @@ fn a_number_without_a_record_is_no_order(rt: HostRuntime) -> Result<(), Fail> {
         ("the greatest number", u64::MAX, 2),
         ("past the book's end", 1, 0),
     ] {
-        for call in every_call() {
-            let answer = answer_to_number(number, rows, call)?;
+        for call in every_call(number) {
+            let answer = answer_in_rows(rows, call)?;
             assert_eq!(rt; answer, 13, "{why}: {call:?}");
         }
     }
@@ -173,10 +175,10 @@ fn passed_on(
     using: Using,
 ) -> Result<u64, Refusal> {
     let mut book = [Order::default(); 1];
-    sent(day, &mut book, request(Side::Buy, 1000, 100))?;
+    made(day, &mut book, buy(1000, 100))?;
     let mut other_book = [Order::default(); 2];
     for _ in 0..case.earlier {
-        sent(other, &mut other_book, request(Side::Buy, 1000, 100))?;
+        made(other, &mut other_book, buy(1000, 100))?;
     }
     let pass = reserved(other, &mut other_book, request(Side::Buy, 1000, 100))?;
     book = [case.record];

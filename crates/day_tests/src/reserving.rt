@@ -1,15 +1,12 @@
-use super::turns::{account_shares, number_of, opened, own_shares, request, security};
+use super::rows::{day_rows, lent, tables};
+use super::turns::{Call, make, number_of, opened, request};
 use gate::day::TradingDay;
 use orders::order::{Order, Request};
 use registers::Register;
-use registers::accounts::{AccountRegister, Designated};
-use registers::participants::{Own, ParticipantRegister};
-use rules::buying::Buying;
 use rules::refusal::Refusal;
 use rules::side::Side;
 use std::test::Fail;
-use tables::rows::Designation;
-use tables::table::{AccountHoldings, Designations, Holdings, SecurityList};
+use tables::table::SecurityList;
 
 // A request, the hour and the book that it comes to, and what it has to be answered: a refusal's number, or 0.
 #[derive(Clone, Copy)]
@@ -99,59 +96,32 @@ fn for_shares(shares: u64, request: Request) -> Request {
 // Spends the quota where the case wants it, makes the steps, and answers the request; an order that is taken is sent.
 fn asked<P: Register, A: Register>(
     day: &mut TradingDay,
-    list: &SecurityList,
+    list: &mut SecurityList,
     participants: &mut P,
     accounts: &mut A,
     book: &mut [Order],
     case: &Case,
 ) -> Result<(), Refusal> {
     if case.spent {
-        let pass = day.reserve(list, participants, accounts, book, buy())?;
-        day.send(book, pass)?;
+        make(day, list, participants, accounts, book, Call::Send(buy()))?;
     }
     for _ in 0..case.steps {
         day.step()?;
     }
-    let pass = day.reserve(list, participants, accounts, book, case.request)?;
-    day.send(book, pass)
+    let request = Call::Send(case.request);
+    make(day, list, participants, accounts, book, request)
 }
 
 // What a case's request is answered on a day whose quota is worth one buy of 100 shares.
 fn answer(case: &Case) -> Result<u64, Refusal> {
-    let mut securities = [
-        security(600_000, Buying::Open),
-        security(600_001, Buying::SellOnly),
-        security(600_002, Buying::Suspended),
-    ];
-    let list = SecurityList::over(&mut securities, 3);
-    let mut holdings = [
-        own_shares(101, 600_000, 500),
-        own_shares(101, 600_001, 200),
-        own_shares(101, 600_002, 100),
-    ];
-    let mut held = Holdings::over(&mut holdings, 3);
-    let mut account_holdings = [account_shares(80_000_001, 600_000, 300)];
-    let mut held_in_accounts = AccountHoldings::over(&mut account_holdings, 1);
-    let mut named = [Designation {
-        account: 80_000_001,
-        participant: 102,
-    }];
-    let designations = Designations::over(&mut named, 1);
-    let mut participants = ParticipantRegister {
-        holdings: &mut held,
-        rule: Own,
-    };
-    let mut accounts = AccountRegister {
-        holdings: &mut held_in_accounts,
-        rule: Designated {
-            designations: &designations,
-        },
-    };
+    let mut rows = day_rows(500);
+    let mut tables = tables(&mut rows, 3, 3);
+    let (list, mut participants, mut accounts) = lent(&mut tables);
     let mut book = [Order::default(); 2];
     let mut day = opened(1, 20_190_215, 100_000)?;
     let answer = asked(
         &mut day,
-        &list,
+        list,
         &mut participants,
         &mut accounts,
         &mut book[..case.rows.min(2)],

@@ -1,20 +1,18 @@
+ghost use Rattle.std.specs.Prelude.{◌≡◌, IfOk};
+ghost use Rattle.gate.specs.Opened.{OpenedBy};
+
+use super::rows::{day_rows, lent, tables};
 use gate::day::{LoadingDay, TradingDay};
 use gate::figures::Figures;
 use history::closing::close;
 use history::reading::balance;
 use orders::order::{Order, Request};
 use registers::Register;
-use registers::accounts::{AccountRegister, Designated};
-use registers::participants::{Own, ParticipantRegister};
-use rules::buying::Buying;
-use rules::price::PriceBand;
 use rules::refusal::Refusal;
 use rules::side::Side;
 use std::process::Abort;
 use std::test::Fail;
-use tables::owner::{Account, Participant};
-use tables::rows::{AccountHolding, Designation, ParticipantHolding, Security};
-use tables::table::{AccountHoldings, Designations, Holdings, SecurityList};
+use tables::table::SecurityList;
 
 // A call of a day with its arguments; an order that is taken is sent at once, or voided at once.
 #[derive(Clone, Copy, Debug)]
@@ -103,49 +101,26 @@ pub(super) fn sell_for_account(price: u64, shares: u64) -> Call {
     })
 }
 
-// A security that closed at 10 yuan, and may leave that by ten percent.
-pub(super) fn security(code: u64, buying: Buying) -> Security {
-    Security {
-        code,
-        buying,
-        close: 1000,
-        band: PriceBand::Ten,
-    }
-}
-
-// What a participant holds at the opening.
-pub(super) fn own_shares(participant: u64, code: u64, shares: u64) -> ParticipantHolding {
-    ParticipantHolding {
-        owner: Participant(participant),
-        code,
-        opening: shares,
-        sellable: shares,
-    }
-}
-
-// What an account holds at the opening.
-pub(super) fn account_shares(account: u64, code: u64, shares: u64) -> AccountHolding {
-    AccountHolding {
-        owner: Account(account),
-        code,
-        opening: shares,
-        sellable: shares,
-    }
+// Why a loading day came back, which is then given up.
+pub(super) fn refusal_of(back: (LoadingDay, Refusal)) -> Refusal
+    ensures { result ≡ back.1 }
+{
+    let (LoadingDay {}, refusal) = back;
+    refusal
 }
 
 // A day of a market, a date and a quota in its first phase.
-pub(super) fn opened(market: u64, date: u64, quota: u64) -> Result<TradingDay, Refusal> {
+pub(super) fn opened(market: u64, date: u64, quota: u64) -> Result<TradingDay, Refusal>
+    ensures { IfOk result (λ day. OpenedBy market date quota day.figures) }
+{
     match (LoadingDay {}).open(market, date, quota) {
         Ok(day) => Ok(day),
-        Err(back) => {
-            let (LoadingDay {}, refusal) = back;
-            Err(refusal)
-        }
+        Err(back) => Err(refusal_of(back)),
     }
 }
 
 // Makes a call.
-fn make<P: Register, A: Register>(
+pub(super) fn make<P: Register, A: Register>(
     day: &mut TradingDay,
     list: &mut SecurityList,
     participants: &mut P,
@@ -180,29 +155,6 @@ pub(super) fn number_of(answer: Result<(), Refusal>) -> u64 {
     }
 }
 
-// Makes the calls one after another, and checks what each answers and leaves.
-fn play<P: Register, A: Register>(
-    rt: &impl Abort,
-    day: &mut TradingDay,
-    list: &mut SecurityList,
-    participants: &mut P,
-    accounts: &mut A,
-    book: &mut [Order],
-    turns: &[Turn],
-) {
-    for (place, turn) in turns.iter().enumerate() {
-        let answer = make(day, list, participants, accounts, book, turn.call);
-        let left = Left {
-            answer: number_of(answer),
-            balance: balance(day, list, participants, accounts, book),
-            shut: day.figures().shut,
-            own: participants.sellable(0),
-            account: accounts.sellable(0),
-        };
-        assert_eq!(rt; left, turn.left, "after the call at place {place}");
-    }
-}
-
 // How a day was left: its book, its figures, and why it could not be closed, if it could not.
 #[derive(Clone, Copy, PartialEq, Eq, Debug)]
 pub(super) struct Ended {
@@ -211,51 +163,47 @@ pub(super) struct Ended {
     pub(super) closing: Option<Refusal>,
 }
 
-// Plays the calls on a day of a quota, on which participant 101 holds 500 shares and account 80000001 holds 300, and
-// then closes it.
-pub(super) fn played(rt: &impl Abort, quota: u64, turns: &[Turn]) -> Result<Ended, Fail> {
-    let mut securities = [security(600_000, Buying::Open)];
-    let mut list = SecurityList::over(&mut securities, 1);
-    let mut holdings = [own_shares(101, 600_000, 500)];
-    let mut held = Holdings::over(&mut holdings, 1);
-    let mut account_holdings = [account_shares(80_000_001, 600_000, 300)];
-    let mut held_in_accounts = AccountHoldings::over(&mut account_holdings, 1);
-    let mut named = [Designation {
-        account: 80_000_001,
-        participant: 102,
-    }];
-    let designations = Designations::over(&mut named, 1);
-    let mut participants = ParticipantRegister {
-        holdings: &mut held,
-        rule: Own,
-    };
-    let mut accounts = AccountRegister {
-        holdings: &mut held_in_accounts,
-        rule: Designated {
-            designations: &designations,
-        },
-    };
+// Makes the calls one after another, checks what each answers and leaves, and then closes the day.
+fn play<P: Register, A: Register>(
+    rt: &impl Abort,
+    mut day: TradingDay,
+    list: &mut SecurityList,
+    participants: &mut P,
+    accounts: &mut A,
+    turns: &[Turn],
+) -> Ended {
     let mut book = [Order::default(); 4];
-    let mut day = opened(1, 20_190_215, quota)?;
-    play(
-        rt,
-        &mut day,
-        &mut list,
-        &mut participants,
-        &mut accounts,
-        &mut book,
-        turns,
-    );
-    let (figures, closing) = match close(day, &list, &participants, &accounts, &book) {
+    for (place, turn) in turns.iter().enumerate() {
+        let answer = make(&mut day, list, participants, accounts, &mut book, turn.call);
+        let left = Left {
+            answer: number_of(answer),
+            balance: balance(&day, list, participants, accounts, &book),
+            shut: day.figures().shut,
+            own: participants.sellable(0),
+            account: accounts.sellable(0),
+        };
+        assert_eq!(rt; left, turn.left, "after the call at place {place}");
+    }
+    let (figures, closing) = match close(day, list, participants, accounts, &book) {
         Ok(closed) => (closed.figures(), None),
         Err(back) => {
             let (day, refusal) = back;
             (day.leave(), Some(refusal))
         }
     };
-    Ok(Ended {
+    Ended {
         book,
         figures,
         closing,
-    })
+    }
+}
+
+// Plays the calls on a day of a quota, on which participant 101 holds 500 shares and account 80000001 holds 300, and
+// then closes it.
+pub(super) fn played(rt: &impl Abort, quota: u64, turns: &[Turn]) -> Result<Ended, Fail> {
+    let mut rows = day_rows(500);
+    let mut tables = tables(&mut rows, 1, 1);
+    let (list, mut participants, mut accounts) = lent(&mut tables);
+    let day = opened(1, 20_190_215, quota)?;
+    Ok(play(rt, day, list, &mut participants, &mut accounts, turns))
 }
