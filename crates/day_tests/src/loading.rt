@@ -1,5 +1,6 @@
 ghost use Rattle.std.specs.Prelude.{◌≡◌, ◌-◌, length, Ok, Err};
 
+use super::rows::{Rows, tables};
 use dayfile::lent::Tables;
 use dayfile::loaded::Loaded;
 use dayfile::loading::load;
@@ -66,6 +67,16 @@ const OLD_DESIGNATION: Designation = Designation {
     participant: 7,
 };
 
+// So many rows of each table, as an earlier day has left them.
+fn old_rows<const S: usize, const P: usize, const A: usize, const G: usize>() -> Rows<S, P, A, G> {
+    Rows {
+        securities: [OLD_SECURITY; S],
+        holdings: [OLD_HOLDING; P],
+        account_holdings: [OLD_ACCOUNT_HOLDING; A],
+        designations: [OLD_DESIGNATION; G],
+    }
+}
+
 // A loaded day's figures, with the place and the line of its first event in the input, or the fault of a refused one.
 fn outcome(
     input: &[u8],
@@ -122,36 +133,15 @@ fn refused(
     })
 }
 
-// Loads a day over rows whose first ones are the lines of the earlier day.
-fn loaded_over(
-    input: &[u8],
-    securities: &mut [Security],
-    holdings: &mut [ParticipantHolding],
-    account_holdings: &mut [AccountHolding],
-    designations: &mut [Designation],
-) -> Result<(Figures, usize, u64), DayFault> {
-    let mut tables = Tables {
-        securities: Table::over(securities, 1),
-        holdings: Table::over(holdings, 1),
-        account_holdings: Table::over(account_holdings, 1),
-        designations: Table::over(designations, 1),
-    };
-    outcome(input, load(LoadingDay {}, input, &mut tables))
+// Loads a day into tables.
+pub(super) fn loaded(input: &[u8], tables: &mut Tables) -> Result<(Figures, usize, u64), DayFault> {
+    outcome(input, load(LoadingDay {}, input, tables))
 }
 
 #[test]
 fn a_good_day_fills_the_rows_from_the_first_on(rt: HostRuntime) {
-    let mut securities = [OLD_SECURITY; 3];
-    let mut holdings = [OLD_HOLDING; 2];
-    let mut account_holdings = [OLD_ACCOUNT_HOLDING; 2];
-    let mut designations = [OLD_DESIGNATION; 2];
-    let answer = loaded_over(
-        GOOD,
-        &mut securities,
-        &mut holdings,
-        &mut account_holdings,
-        &mut designations,
-    );
+    let mut rows = old_rows::<3, 2, 2, 2>();
+    let answer = loaded(GOOD, &mut tables(&mut rows, 1, 1));
     assert_eq!(rt; answer, good());
     let first = Security {
         code: 600_000,
@@ -165,95 +155,54 @@ fn a_good_day_fills_the_rows_from_the_first_on(rt: HostRuntime) {
         close: 905,
         band: PriceBand::Five,
     };
-    assert_eq!(rt; securities, [first, second, OLD_SECURITY]);
+    assert_eq!(rt; rows.securities, [first, second, OLD_SECURITY]);
     let holding = ParticipantHolding {
         owner: Participant(101),
         code: 600_000,
         opening: 500,
         sellable: 500,
     };
-    assert_eq!(rt; holdings, [holding, OLD_HOLDING]);
-    let account_holding = AccountHolding {
+    assert_eq!(rt; rows.holdings, [holding, OLD_HOLDING]);
+    let of_account = AccountHolding {
         owner: Account(80_000_001),
         code: 600_000,
         opening: 300,
         sellable: 300,
     };
-    assert_eq!(rt; account_holdings, [account_holding, OLD_ACCOUNT_HOLDING]);
+    assert_eq!(rt; rows.account_holdings, [of_account, OLD_ACCOUNT_HOLDING]);
     let designation = Designation {
         account: 80_000_001,
         participant: 102,
     };
-    assert_eq!(rt; designations, [designation, OLD_DESIGNATION]);
+    assert_eq!(rt; rows.designations, [designation, OLD_DESIGNATION]);
 }
 
 #[test]
 fn a_refused_day_leaves_every_row(rt: HostRuntime) {
-    let mut securities = [OLD_SECURITY; 3];
-    let mut holdings = [OLD_HOLDING; 2];
-    let mut account_holdings = [OLD_ACCOUNT_HOLDING; 2];
-    let mut designations = [OLD_DESIGNATION; 2];
-    let answer = loaded_over(
-        MISCOUNTED,
-        &mut securities,
-        &mut holdings,
-        &mut account_holdings,
-        &mut designations,
-    );
+    let mut rows = old_rows::<3, 2, 2, 2>();
+    let answer = loaded(MISCOUNTED, &mut tables(&mut rows, 1, 1));
     assert_eq!(rt; answer, refused(Refusal::Count, 50, b'E', 6));
-    assert_eq!(rt; securities, [OLD_SECURITY; 3]);
-    assert_eq!(rt; holdings, [OLD_HOLDING; 2]);
-    assert_eq!(rt; account_holdings, [OLD_ACCOUNT_HOLDING; 2]);
-    assert_eq!(rt; designations, [OLD_DESIGNATION; 2]);
+    assert_eq!(rt; rows, old_rows::<3, 2, 2, 2>());
 }
 
 #[test]
 fn a_table_has_room_for_its_rows_and_no_more(rt: HostRuntime) {
-    let mut holdings = [OLD_HOLDING; 1];
-    let mut account_holdings = [OLD_ACCOUNT_HOLDING; 1];
-    let mut designations = [OLD_DESIGNATION; 1];
-    let mut two = [OLD_SECURITY; 2];
-    let answer = loaded_over(
-        GOOD,
-        &mut two,
-        &mut holdings,
-        &mut account_holdings,
-        &mut designations,
-    );
+    let mut enough = old_rows::<2, 1, 1, 1>();
+    let answer = loaded(GOOD, &mut tables(&mut enough, 1, 1));
     assert_eq!(rt; answer, good());
-    let mut one = [OLD_SECURITY; 1];
-    let answer = loaded_over(
-        GOOD,
-        &mut one,
-        &mut holdings,
-        &mut account_holdings,
-        &mut designations,
-    );
+    let mut one_security = old_rows::<1, 1, 1, 1>();
+    let answer = loaded(GOOD, &mut tables(&mut one_security, 1, 1));
     assert_eq!(rt; answer, refused(Refusal::Room, 1, b'S', 3));
-    let mut none: [Designation; 0] = [];
-    let answer = loaded_over(
-        GOOD,
-        &mut two,
-        &mut holdings,
-        &mut account_holdings,
-        &mut none,
-    );
+    let mut no_designation = old_rows::<2, 1, 1, 0>();
+    let answer = loaded(GOOD, &mut tables(&mut no_designation, 1, 1));
     assert_eq!(rt; answer, refused(Refusal::Room, 1, b'G', 6));
 }
 
 #[test]
 fn the_lines_of_a_loaded_table_are_those_of_the_file(rt: HostRuntime) {
-    let mut securities = [OLD_SECURITY; 3];
-    let mut holdings = [OLD_HOLDING; 2];
-    let mut account_holdings = [OLD_ACCOUNT_HOLDING; 2];
-    let mut designations = [OLD_DESIGNATION; 2];
-    let mut tables = Tables {
-        securities: Table::over(&mut securities, 3),
-        holdings: Table::over(&mut holdings, 2),
-        account_holdings: Table::over(&mut account_holdings, 2),
-        designations: Table::over(&mut designations, 2),
-    };
-    let answer = outcome(GOOD, load(LoadingDay {}, GOOD, &mut tables));
+    let mut rows = old_rows::<3, 2, 2, 2>();
+    let mut tables = tables(&mut rows, 3, 2);
+    let answer = loaded(GOOD, &mut tables);
     assert_eq!(rt; answer, good());
     assert_eq!(rt;
         (
@@ -291,23 +240,13 @@ fn the_lines_of_a_loaded_table_are_those_of_the_file(rt: HostRuntime) {
 
 #[test]
 fn the_lines_of_a_table_stay_where_a_day_is_refused(rt: HostRuntime) {
-    let mut securities = [OLD_SECURITY; 3];
-    let mut holdings = [OLD_HOLDING; 2];
-    let mut account_holdings = [OLD_ACCOUNT_HOLDING; 2];
-    let mut designations = [
-        OLD_DESIGNATION,
-        Designation {
-            account: 80_000_008,
-            participant: 8,
-        },
-    ];
-    let mut tables = Tables {
-        securities: Table::over(&mut securities, 2),
-        holdings: Table::over(&mut holdings, 1),
-        account_holdings: Table::over(&mut account_holdings, 1),
-        designations: Table::over(&mut designations, 1),
+    let mut rows = old_rows::<3, 2, 2, 2>();
+    rows.designations[1] = Designation {
+        account: 80_000_008,
+        participant: 8,
     };
-    let answer = outcome(MISCOUNTED, load(LoadingDay {}, MISCOUNTED, &mut tables));
+    let mut tables = tables(&mut rows, 2, 1);
+    let answer = loaded(MISCOUNTED, &mut tables);
     assert_eq!(rt; answer, refused(Refusal::Count, 50, b'E', 6));
     assert_eq!(rt;
         (tables.securities.line(1), tables.securities.line(2)),
@@ -346,15 +285,7 @@ fn loaded_at_last(tables: &mut Tables) -> Result<(Figures, usize, u64), DayFault
 
 #[test]
 fn a_good_day_may_follow_a_refused_one(rt: HostRuntime) {
-    let mut securities = [OLD_SECURITY; 2];
-    let mut holdings = [OLD_HOLDING; 1];
-    let mut account_holdings = [OLD_ACCOUNT_HOLDING; 1];
-    let mut designations = [OLD_DESIGNATION; 1];
-    let mut tables = Tables {
-        securities: Table::over(&mut securities, 0),
-        holdings: Table::over(&mut holdings, 0),
-        account_holdings: Table::over(&mut account_holdings, 0),
-        designations: Table::over(&mut designations, 0),
-    };
-    assert_eq!(rt; loaded_at_last(&mut tables), good());
+    let mut rows = old_rows::<2, 1, 1, 1>();
+    let answer = loaded_at_last(&mut tables(&mut rows, 0, 0));
+    assert_eq!(rt; answer, good());
 }

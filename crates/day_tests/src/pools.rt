@@ -1,18 +1,12 @@
 ghost use Rattle.std.specs.Prelude.{◌≡◌};
 ghost use Rattle.registers.specs.Meaning.{opening_of, sellable_of};
 
-use dayfile::lent::Tables;
-use dayfile::loaded::Loaded;
-use dayfile::loading::load;
-use fields::fault::DayFault;
-use gate::day::LoadingDay;
+use super::loading::loaded;
+use super::rows::{Rows, lent, tables};
 use registers::Register;
-use registers::accounts::{AccountRegister, Designated};
-use registers::participants::{Own, ParticipantRegister};
 use rules::refusal::Refusal;
 use std::test::Fail;
 use tables::rows::{AccountHolding, Designation, ParticipantHolding, Security};
-use tables::table::Table;
 
 // A morning with three holdings of participants, two of accounts, and three designations.
 const MORNING: &[u8] = b"\
@@ -28,21 +22,6 @@ G        80000002             205
 E               0               3               2               3
 ";
 
-// Loads the morning, and leaves its day.
-fn load_morning(tables: &mut Tables) -> Result<(), DayFault> {
-    match load(LoadingDay {}, MORNING, tables) {
-        Ok(loaded) => {
-            let Loaded { day, events: _ } = loaded;
-            day.leave();
-            Ok(())
-        }
-        Err(back) => {
-            let (LoadingDay {}, fault) = back;
-            Err(fault)
-        }
-    }
-}
-
 // What a register says of a pool: its opening and its sellable number.
 fn pool<R: Register>(register: &R, number: usize) -> (Option<u64>, Option<u64>)
     ensures opening { result.0 ≡ opening_of (R.Register.meaning register.now) number }
@@ -51,29 +30,22 @@ fn pool<R: Register>(register: &R, number: usize) -> (Option<u64>, Option<u64>)
     (register.opening(number), register.sellable(number))
 }
 
+// Rows for the morning, with one row more than it has holdings, of participants and of accounts.
+fn morning_rows() -> Rows<1, 4, 3, 3> {
+    Rows {
+        securities: [Security::default(); 1],
+        holdings: [ParticipantHolding::default(); 4],
+        account_holdings: [AccountHolding::default(); 3],
+        designations: [Designation::default(); 3],
+    }
+}
+
 #[test]
 fn participants_sell_what_they_hold(rt: HostRuntime) -> Result<(), Fail> {
-    let mut securities = [Security::default(); 1];
-    let mut holdings = [ParticipantHolding::default(); 4];
-    let mut account_holdings = [AccountHolding::default(); 2];
-    let mut designations = [Designation::default(); 3];
-    let mut tables = Tables {
-        securities: Table::over(&mut securities, 0),
-        holdings: Table::over(&mut holdings, 0),
-        account_holdings: Table::over(&mut account_holdings, 0),
-        designations: Table::over(&mut designations, 0),
-    };
-    load_morning(&mut tables)?;
-    let Tables {
-        securities: _,
-        mut holdings,
-        account_holdings: _,
-        designations: _,
-    } = tables;
-    let mut register = ParticipantRegister {
-        holdings: &mut holdings,
-        rule: Own,
-    };
+    let mut rows = morning_rows();
+    let mut tables = tables(&mut rows, 0, 0);
+    loaded(MORNING, &mut tables)?;
+    let (_, mut register, _) = lent(&mut tables);
     assert_eq!(rt; pool(&register, 0), (Some(500), Some(500)));
     assert_eq!(rt; pool(&register, 1), (Some(12_000), Some(12_000)));
     assert_eq!(rt; pool(&register, 2), (Some(300), Some(300)));
@@ -95,29 +67,10 @@ fn participants_sell_what_they_hold(rt: HostRuntime) -> Result<(), Fail> {
 
 #[test]
 fn designated_participants_sell_what_accounts_hold(rt: HostRuntime) -> Result<(), Fail> {
-    let mut securities = [Security::default(); 1];
-    let mut holdings = [ParticipantHolding::default(); 3];
-    let mut account_holdings = [AccountHolding::default(); 3];
-    let mut designations = [Designation::default(); 3];
-    let mut tables = Tables {
-        securities: Table::over(&mut securities, 0),
-        holdings: Table::over(&mut holdings, 0),
-        account_holdings: Table::over(&mut account_holdings, 0),
-        designations: Table::over(&mut designations, 0),
-    };
-    load_morning(&mut tables)?;
-    let Tables {
-        securities: _,
-        holdings: _,
-        mut account_holdings,
-        designations,
-    } = tables;
-    let mut register = AccountRegister {
-        holdings: &mut account_holdings,
-        rule: Designated {
-            designations: &designations,
-        },
-    };
+    let mut rows = morning_rows();
+    let mut tables = tables(&mut rows, 0, 0);
+    loaded(MORNING, &mut tables)?;
+    let (_, _, mut register) = lent(&mut tables);
     assert_eq!(rt; pool(&register, 0), (Some(300), Some(300)));
     assert_eq!(rt; pool(&register, 1), (Some(4500), Some(4500)));
     assert_eq!(rt; pool(&register, 2), (None, None));
