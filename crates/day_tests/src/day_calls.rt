@@ -1,44 +1,31 @@
 ghost use Rattle.std.specs.Prelude.{◌≡◌, IfOk};
 ghost use Rattle.gate.specs.Opened.{OpenedBy};
 
+use super::rows::security;
+use super::turns::{opened, refusal_of};
 use gate::day::{LoadingDay, TradingDay};
 use gate::figures::Figures;
 use rules::buying::Buying;
 use rules::market::Market;
 use rules::notice::NoticeBand;
 use rules::phase::Phase;
-use rules::price::PriceBand;
 use rules::refusal::Refusal;
+use std::process::Abort;
 use std::test::Fail;
-use tables::rows::Security;
 use tables::table::SecurityList;
-
-// Why a loading day came back, which is then given up.
-fn refusal_of(back: (LoadingDay, Refusal)) -> Refusal
-    ensures { result ≡ back.1 }
-{
-    let (LoadingDay {}, refusal) = back;
-    refusal
-}
 
 // The figures of a day of these numbers in its first phase, or why it does not open.
 fn opening(market: u64, date: u64, quota: u64) -> Result<Figures, Refusal>
     ensures { IfOk result (λ figures. OpenedBy market date quota figures) }
 {
-    match (LoadingDay {}).open(market, date, quota) {
-        Ok(day) => Ok(day.leave()),
-        Err(back) => Err(refusal_of(back)),
-    }
+    Ok(opened(market, date, quota)?.leave())
 }
 
 // A day in its first phase.
 fn trading() -> Result<TradingDay, Refusal>
     ensures { IfOk result (λ day. OpenedBy 1 20190215 100000 day.figures) }
 {
-    match (LoadingDay {}).open(1, 20_190_215, 100_000) {
-        Ok(day) => Ok(day),
-        Err(back) => Err(refusal_of(back)),
-    }
+    opened(1, 20_190_215, 100_000)
 }
 
 // The figures of that day in a phase.
@@ -154,69 +141,65 @@ fn a_day_is_closed_after_hours_alone(rt: HostRuntime) {
     assert_eq!(rt; closed_after(4), Ok(in_phase(Phase::AfterHours)));
 }
 
-// Gives a notice of so many foreign shares in a hundred; answers the buying state that the list then has.
-fn noticed(day: &mut TradingDay, list: &mut SecurityList, foreign: u64) -> Option<Buying> {
-    if day.notice(list, 600_000, foreign, 100).is_err() {
-        return None;
+// Gives notices of so many foreign shares in a hundred, and checks the buying state that each leaves the security in.
+fn check_notices(
+    rt: &impl Abort,
+    buying: Buying,
+    notices: &[(u64, Buying)],
+) -> Result<(), Refusal> {
+    let mut day = trading()?;
+    let mut rows = [security(600_000, buying)];
+    let mut list = SecurityList::over(&mut rows, 1);
+    for (foreign, left) in notices {
+        let answer = day.notice(&mut list, 600_000, *foreign, 100);
+        assert_eq!(rt; answer, Ok(()), "a notice of {foreign} percent");
+        let line = security(600_000, *left);
+        assert_eq!(rt; list.line(0), Some(line), "after {foreign} percent");
     }
-    match list.line(0) {
-        Some(security) => Some(security.buying),
-        None => None,
-    }
-}
-
-fn security(buying: Buying) -> Security {
-    Security {
-        code: 600_000,
-        buying,
-        close: 1005,
-        band: PriceBand::Ten,
-    }
+    day.leave();
+    Ok(())
 }
 
 #[test]
 fn a_security_is_suspended_at_28_percent_and_opens_at_26(rt: HostRuntime) -> Result<(), Fail> {
-    let mut day = trading()?;
-    let mut rows = [security(Buying::Open)];
-    let mut list = SecurityList::over(&mut rows, 1);
-    let at_28 = noticed(&mut day, &mut list, 28);
-    let then_27 = noticed(&mut day, &mut list, 27);
-    let at_26 = noticed(&mut day, &mut list, 26);
-    let again_27 = noticed(&mut day, &mut list, 27);
-    day.leave();
-    assert_eq!(rt; at_28, Some(Buying::Suspended));
-    assert_eq!(rt; then_27, Some(Buying::Suspended));
-    assert_eq!(rt; at_26, Some(Buying::Open));
-    assert_eq!(rt; again_27, Some(Buying::Open));
+    check_notices(
+        &rt,
+        Buying::Open,
+        &[
+            (28, Buying::Suspended),
+            (27, Buying::Suspended),
+            (26, Buying::Open),
+            (27, Buying::Open),
+        ],
+    )?;
     Ok(())
 }
 
 #[test]
 fn a_security_that_may_only_be_sold_stays_so(rt: HostRuntime) -> Result<(), Fail> {
-    let mut day = trading()?;
-    let mut rows = [security(Buying::SellOnly)];
-    let mut list = SecurityList::over(&mut rows, 1);
-    let at_0 = noticed(&mut day, &mut list, 0);
-    let at_27 = noticed(&mut day, &mut list, 27);
-    let at_100 = noticed(&mut day, &mut list, 100);
-    day.leave();
-    assert_eq!(rt; at_0, Some(Buying::SellOnly));
-    assert_eq!(rt; at_27, Some(Buying::SellOnly));
-    assert_eq!(rt; at_100, Some(Buying::SellOnly));
+    check_notices(
+        &rt,
+        Buying::SellOnly,
+        &[
+            (0, Buying::SellOnly),
+            (27, Buying::SellOnly),
+            (100, Buying::SellOnly),
+        ],
+    )?;
     Ok(())
 }
 
 #[test]
 fn a_refused_notice_changes_nothing(rt: HostRuntime) -> Result<(), Fail> {
     let mut day = trading()?;
-    let mut rows = [security(Buying::Open)];
+    let mut rows = [security(600_000, Buying::Open)];
     let mut list = SecurityList::over(&mut rows, 1);
     let unlisted = day.notice(&mut list, 600_001, 28, 100);
     let impossible = day.notice(&mut list, 600_000, 101, 100);
     let figures = day.leave();
     assert_eq!(rt; unlisted, Err(Refusal::Code));
     assert_eq!(rt; impossible, Err(Refusal::Foreign));
-    assert_eq!(rt; list.line(0), Some(security(Buying::Open)));
+    assert_eq!(rt; list.line(0), Some(security(600_000, Buying::Open)));
     assert_eq!(rt; figures, in_phase(Phase::OpeningCall));
     Ok(())
 }
