@@ -14,14 +14,13 @@ counted (suc m) p e =
     let bit = ap (λ b. cond b 16 (count_trailing_zeros 64 (suc m))) (ne_eqb (suc m) 0 (λ z. omega arith)) in
     ap (λ (k : ℕ). min k 15) (sym bit ∙ e)
 
-spaces : (xs : List ℕ) → prefix_len (λ x. not (not (x == 32))) xs ≡ prefix_len (λ b. b == 32) xs
-spaces [] = refl
-spaces (x ∷ xs) = ap₂ (λ b n. cond b (1 + n) 0) (not-not (x == 32)) (spaces xs)
+same_spaces : (xs : List ℕ) → prefix_len (λ x. not (not (x == 32))) xs ≡ prefix_len (λ b. b == 32) xs
+same_spaces [] = refl
+same_spaces (x ∷ xs) = ap₂ (λ b n. cond b (1 + n) 0) (not-not (x == 32)) (same_spaces xs)
 
 pub returns : goal.returns
 returns c =
     let bs = c.args.bytes.now in
-    let mask = bitmask_splat w8 (λ a b. not (a == b)) bs 16 32 c.told-bytes (omega arith) in
-    c.min.ensures
-    ∙ ap (λ m. min (count_trailing_zeros 64 m) 15) mask
-    ∙ counted _ _ (first_set_mask_l (λ x. not (x == 32)) bs 16 c.told-bytes (omega arith) ∙ spaces bs)
+    let mask = ap (count_trailing_zeros 64) (bitmask_splat w8 (λ a b. not (a == b)) bs 16 32 c.told-bytes (omega arith)) in
+    let spaces = counted _ _ (first_set_mask_l (λ x. not (x == 32)) bs 16 c.told-bytes (omega arith) ∙ same_spaces bs) in
+    omega arith
