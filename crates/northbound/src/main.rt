@@ -23,14 +23,21 @@ fn read_input<R: Read + Drop>(heap: Global, reader: R) -> anyhow::Result<Vec<u8>
     Ok(input)
 }
 
+// Writes a whole text behind what a writer has.
+fn write_text<W: Write>(writer: &mut W, text: &[u8]) -> anyhow::Result<()>
+    ensures { OnOk result (Appends (W.Write.contents writer.old) (W.Write.contents writer.new) text.now) }
+{
+    writer.write_all(text)?;
+    Ok(())
+}
+
 // Writes the answer to all that a reader gives behind what a writer has.
 fn answer<R: Read + Drop, W: Write>(heap: Global, reader: R, writer: &mut W) -> anyhow::Result<()>
     ensures { OnOk result (IfSome (R.Read.remaining reader) (λ input. (text : List ℕ) × Output input program_room program_orders text × Appends (W.Write.contents writer.old) (W.Write.contents writer.new) text)) }
 {
     let input = read_input(heap, reader)?;
     let text = output(heap, &input)?;
-    writer.write_all(&text)?;
-    Ok(())
+    write_text(writer, &text)
 }
 
 // Answers standard input on standard output.
