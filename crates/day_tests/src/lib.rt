@@ -26,6 +26,8 @@ mod prices;
 #[cfg(test)]
 mod records;
 #[cfg(test)]
+mod replaying;
+#[cfg(test)]
 mod reserving;
 #[cfg(test)]
 mod rows;
