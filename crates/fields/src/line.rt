@@ -102,6 +102,7 @@ const LETTER: FieldFault = FieldFault {
 
 impl<'a> DayLine<'a> {
     // The day line that the input goes on with, as its fields.
+    #[inline(always)]
     pub fn cut(rest: &'a [u8]) -> Result<DayLine<'a>, FieldFault>
         ensures { MatchResult result (λ l. (opening day_letters rest.now ≡ Ok (day_letter_of l)) × DayFieldsOf rest.now l) (λ f. opening day_letters rest.now ≡ Err f) }
     {
