@@ -125,6 +125,32 @@ module _ {K : Type 0} (order : K → K → Ordering) (total : TotalOrder order) 
 pub row_at : {X K : Type 0} (named : X → Option K) (rows : List X) (i : ℕ) (x : X) → i < length rows → x ≡ get_or rows i x → named x ≡ get_or (map named rows) i None
 row_at named rows i x l e = ap named e ∙ sym (get_or-map named rows i x None l)
 
+-- rows that rise have the keys that they are presumed to have
+module _ {X K : Type 0} (order : K → K → Ordering) (named : X → Option K) (presumed : X → K) (right : (x : X) (k : K) → named x ≡ Some k → presumed x ≡ k) where
+  abbrev bare : X → Option K
+  bare x = Some (presumed x)
+
+  same_from : (last : Option K) (o : Option K) (x : X) (xs : List X) → named x ≡ o → rise_from order last (o ∷ map named xs) ≡ true → o ∷ map named xs ≡ bare x ∷ map bare xs
+  same_from last None x xs e h = cc
+  same_from last (Some k) x [] e h = ap (λ y. Some y ∷ []) (sym (right x k e))
+  same_from last (Some k) x (y ∷ ys) e h =
+      ap (λ z. Some z ∷ map named (y ∷ ys)) (sym (right x k e))
+      ∙ ap (λ os. bare x ∷ os) (same_from (Some k) (named y) y ys refl (and_parts (is_above order last k) _ h).1)
+
+  pub presumed_keys : (xs : List X) → rise order named xs ≡ true → map named xs ≡ map bare xs
+  presumed_keys [] h = refl
+  presumed_keys (x ∷ xs) h = same_from None (named x) x xs refl h
+
+  -- the row read at a place, by the key that it is presumed to have
+  pub presumed_at : (rows : List X) (i : ℕ) (x : X) → rise order named rows ≡ true → i < length rows → x ≡ get_or rows i x → bare x ≡ get_or (map named rows) i None
+  presumed_at rows i x up l e = row_at bare rows i x l e ∙ ap (λ ks. get_or ks i None) (sym (presumed_keys rows up))
+
+  -- what halving by the presumed keys finds of the keys
+  pub halved : (total : TotalOrder order) (key : K) (rows : List X) (i : ℕ) → i ≤ length rows → (IsPartitionedBy (λ x. is_before order key (bare x)) rows → IsPartitionPoint (λ x. is_before order key (bare x) ≡ true) (λ x. is_before order key (bare x) ≡ false) rows i) → rise order named rows ≡ true → ((j : ℕ) → j < i → is_before order key (get_or (map named rows) j None) ≡ true) × (i < length rows → is_before order key (get_or (map named rows) i None) ≡ false)
+  halved total key rows i l p up =
+      let same = presumed_keys rows up in
+      rw same (parts order total key bare rows i l (p (parted order total key bare rows (ap (rise_from order None) (sym same) ∙ up))))
+
 -- one more row behind those of a table
 at_last : {K : Type 0} (ks : List (Option K)) → 0 < length ks → get_or (None ∷ ks) (length ks) None ≡ get_or ks (length ks - 1) None
 at_last [] l = absurd (omega arith)

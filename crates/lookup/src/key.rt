@@ -1,4 +1,4 @@
-ghost use Rattle.std.specs.Prelude.{◌≡◌, Option as Maybe};
+ghost use Rattle.std.specs.Prelude.{◌≡◌, Some, Option as Maybe};
 ghost use Rattle.lookup.specs.Orders.{TotalOrder};
 ghost use Rattle.std.proofs.Common.{rules};
 
@@ -13,8 +13,16 @@ pub trait Row {
 
     ghost named: { Self → Maybe Self.Key };
 
+    ghost presumed: { Self → Self.Key };
+
     fn key(&self) -> Option<Self::Key>
         ensures { result ≡ named self.now };
+
+    // The key of a row that is known to be present: it does not ask whether the row is.
+    fn presumed_key(&self) -> Self::Key
+        ensures { result ≡ presumed self.now };
+
+    ghost presumed_right: { (x : Self) (k : Self.Key) → named x ≡ Some k → presumed x ≡ k };
 }
 
 // A key of two numbers, ordered by the first and then by the second.

@@ -22,16 +22,18 @@ pub fn find<R: Row>(rows: &[R], key: &R::Key) -> Option<usize>
     None
 }
 
+// Whether a row that is present is before the key.
 fn is_before<R: Row>(row: &R, key: &R::Key) -> bool
-    ensures { result ≡ is_before R.Key.cmp key.now (R.named row.now) }
+    ensures { result ≡ is_before R.Key.cmp key.now (Some (R.presumed row.now)) }
 {
-    row.key().is_some_and(|k| k.cmp(key).is_lt())
+    row.presumed_key().cmp(key).is_lt()
 }
 
+// Whether a row that is present has the key.
 fn is_at<R: Row>(row: &R, key: &R::Key) -> bool
-    ensures { result ≡ is_at R.Key.cmp key.now (R.named row.now) }
+    ensures { result ≡ is_at R.Key.cmp key.now (Some (R.presumed row.now)) }
 {
-    row.key().is_some_and(|k| k.cmp(key).is_eq())
+    row.presumed_key().cmp(key).is_eq()
 }
 
 // A place that parts rows that rise: the rows before it are before the key, and the row there is not.

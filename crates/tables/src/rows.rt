@@ -1,6 +1,7 @@
 ghost use Rattle.std.specs.Prelude.{◌≡◌, ◌&&◌, None, nat_le};
 ghost use Rattle.rules.specs.Ranges.{in_range, range_of};
-ghost use Rattle.tables.specs.Rows.{security_present, security_key, held_present, held_key, designation_present, designation_key, no_security, no_holding, no_designation};
+ghost use Rattle.std.proofs.lemmas.Option.{cond_some};
+ghost use Rattle.tables.specs.Rows.{pair, security_present, security_key, held_present, held_key, designation_present, designation_key, no_security, no_holding, no_designation};
 
 use super::owner::{Account, Owner, Participant};
 use lookup::key::{Pair, Row};
@@ -114,9 +115,17 @@ impl Row for Security {
 
     ghost named = { security_key };
 
+    ghost presumed = { λ s. s.code };
+
     fn key(&self) -> Option<u64> {
-        self.is_present().then_some(self.code)
+        self.is_present().then_some(self.presumed_key())
     }
+
+    fn presumed_key(&self) -> u64 {
+        self.code
+    }
+
+    ghost presumed_right = { λ s k e. (cond_some (security_present s) s.code k e).1 };
 }
 
 impl<O: Owner> Row for Holding<O> {
@@ -124,13 +133,20 @@ impl<O: Owner> Row for Holding<O> {
 
     ghost named = { held_key O.NUMBERS O.number };
 
+    ghost presumed = { λ h. pair (O.number h.owner) h.code };
+
     fn key(&self) -> Option<Pair> {
-        let key = Pair {
+        self.is_present().then_some(self.presumed_key())
+    }
+
+    fn presumed_key(&self) -> Pair {
+        Pair {
             first: self.owner.number(),
             second: self.code,
-        };
-        self.is_present().then_some(key)
+        }
     }
+
+    ghost presumed_right = { λ h k e. (cond_some (held_present O.NUMBERS O.number h) (pair (O.number h.owner) h.code) k e).1 };
 }
 
 impl Row for Designation {
@@ -138,11 +154,18 @@ impl Row for Designation {
 
     ghost named = { designation_key };
 
+    ghost presumed = { λ d. pair d.account d.participant };
+
     fn key(&self) -> Option<Pair> {
-        let key = Pair {
+        self.is_present().then_some(self.presumed_key())
+    }
+
+    fn presumed_key(&self) -> Pair {
+        Pair {
             first: self.account,
             second: self.participant,
-        };
-        self.is_present().then_some(key)
+        }
     }
+
+    ghost presumed_right = { λ d k e. (cond_some (designation_present d) (pair d.account d.participant) k e).1 };
 }
