@@ -1,9 +1,14 @@
 ghost use Rattle.std.specs.Prelude.{◌≡◌, Some, Option as Maybe};
+ghost use Rattle.std.specs.Ordering.{is_lt};
 ghost use Rattle.lookup.specs.Orders.{TotalOrder};
 ghost use Rattle.std.proofs.Common.{rules};
 
 // A kind of key, which its order tells apart.
 pub trait Key: Ord + Copy {
+    // Whether this key is before another one.
+    fn precedes(self, other: Self) -> bool
+        ensures { result ≡ is_lt (Self.cmp self other) };
+
     ghost total: { TotalOrder Self.cmp };
 }
 
@@ -33,9 +38,18 @@ pub struct Pair {
 }
 
 impl Key for u64 {
+    fn precedes(self, other: u64) -> bool {
+        self < other
+    }
+
     ghost total = { Prim.search rules };
 }
 
 impl Key for Pair {
+    // Both numbers are compared whatever the first says, so that halving has no branch to guess at each row.
+    fn precedes(self, other: Pair) -> bool {
+        (self.first < other.first) | ((self.first == other.first) & (self.second < other.second))
+    }
+
     ghost total = { Prim.search rules };
 }

@@ -26,7 +26,7 @@ pub fn find<R: Row>(rows: &[R], key: &R::Key) -> Option<usize>
 fn is_before<R: Row>(row: &R, key: &R::Key) -> bool
     ensures { result ≡ is_before R.Key.cmp key.now (Some (R.presumed row.now)) }
 {
-    row.presumed_key().cmp(key).is_lt()
+    row.presumed_key().precedes(*key)
 }
 
 // Whether a row that is present has the key.
