@@ -27,19 +27,20 @@ impl State {
     }
 }
 
-// The record of an order: what was asked, what became of it, and the pool that a sell draws on, 0 for a buy.
+// The record of an order: what was asked, what became of it, and the pool that a sell draws on, 0 for a buy. The short fields
+// stand last, so that a record takes 80 bytes.
 #[derive(Clone, Copy, PartialEq, Eq, Debug)]
 pub struct Order {
     pub participant: u64,
     pub account: u64,
     pub code: u64,
-    pub side: Side,
     pub price: u64,
     pub shares: u64,
     pub filled: u64,
     pub returned: u64,
     pub traded: u64,
     pub pool: usize,
+    pub side: Side,
     pub state: State,
 }
 

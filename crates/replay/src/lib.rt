@@ -20,11 +20,18 @@ const MOST_ROWS: u64 = 16_384;
 // The most orders that the book may have.
 const MOST_ORDERS: u64 = 50_000;
 
-// The answer to an input over tables of so many rows, and a book of so many orders.
-fn answer(heap: Global, input: &[u8], rows: usize, orders: usize) -> Result<Vec<u8>, AllocError>
+// The answer to an input over tables of so many rows, and a book of so many orders. It begins with room for so many bytes, and
+// grows where it is longer.
+fn answer(
+    heap: Global,
+    input: &[u8],
+    rows: usize,
+    orders: usize,
+    room: usize,
+) -> Result<Vec<u8>, AllocError>
     ensures { IfOk result (λ text. (closed : Option closing) × DayAnswer input.now (counts rows rows rows rows) orders closed text.items) }
 {
-    let mut text = Vec::new(heap);
+    let mut text = Vec::with_capacity(heap, room)?;
     replay(heap, input, rows, orders, &mut text)?;
     Ok(text)
 }
@@ -77,7 +84,9 @@ pub extern "C" fn northbound_replay(
     if rows > MOST_ROWS || orders > MOST_ORDERS {
         return Outcome::TooMany as u32;
     }
-    let Ok(answer) = answer(heap, input, rows as usize, orders as usize) else {
+    // Few answers are longer than their input.
+    let room = text.len().min(input.len());
+    let Ok(answer) = answer(heap, input, rows as usize, orders as usize, room) else {
         return Outcome::NoMemory as u32;
     };
     *length = answer.len();

@@ -9,12 +9,13 @@ use rules::buying::Buying;
 use rules::price::PriceBand;
 use rules::range::Quantity;
 
-// A security that is traded: whether it may be bought, and what its prices are held to.
+// A security that is traded: whether it may be bought, and what its prices are held to. The short fields stand last, so that
+// a row takes 24 bytes.
 #[derive(Clone, Copy, PartialEq, Eq, Debug)]
 pub struct Security {
     pub code: u64,
-    pub buying: Buying,
     pub close: u64,
+    pub buying: Buying,
     pub band: PriceBand,
 }
 
