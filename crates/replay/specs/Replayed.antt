@@ -1,18 +1,17 @@
 -- What a replay answers.
 use Rattle.std.specs.Prelude.{◌≡◌, ℕ, Bool, cond, ◌||◌, List, ◌++◌, length, drop, Option, nat_le, nat_lt}
+use Rattle.rules.specs.declared.range.Quantity.TheVariants as quantity
+use Rattle.rules.specs.Ranges.{range_of}
 use Rattle.replay.specs.declared.outcome.Outcome.{Outcome}
 use Rattle.replay.specs.declared.outcome.Outcome.TheVariants.{Answered, NoMemory, Short, TooMany}
 use Rattle.gate.specs.declared.figures.Figures.{Figures}
+use Rattle.gate.specs.Balances.{most_orders}
 use Rattle.dayfile.specs.DayPart.{counts}
 use Rattle.desk.specs.Output.{DayAnswer}
 
 -- The most rows that each table of a replay may have: as many lines as a group may count.
 abbrev pub most_rows : ℕ
-most_rows = 16384
-
--- The most orders that the book of a replay may have: as many as a day takes.
-abbrev pub most_orders : ℕ
-most_orders = 50000
+most_rows = (range_of quantity.Lines).most
 
 -- The number that says how a replay came out.
 abbrev pub outcome_number : Outcome → ℕ
@@ -21,7 +20,7 @@ outcome_number Short = 1
 outcome_number NoMemory = 2
 outcome_number TooMany = 3
 
--- So many rows or orders are more than a replay may have.
+-- So many rows are more than a replay may have, or so many orders more than a day takes.
 abbrev pub too_many : ℕ → ℕ → Bool
 too_many rows orders = nat_lt most_rows rows || nat_lt most_orders orders
 

@@ -3,10 +3,11 @@
 
 ghost use Rattle.std.specs.Prelude.{◌≡◌, ◌<◌, ◌≤◌, nat_eq, ◌++◌, cond, drop, length, nat_le, IfOk, Option};
 ghost use Rattle.gate.specs.declared.figures.Figures.{Figures as closing};
+ghost use Rattle.gate.specs.Balances.{most_orders};
 ghost use Rattle.dayfile.specs.DayPart.{counts};
 ghost use Rattle.desk.specs.Output.{DayAnswer};
 ghost use Rattle.replay.specs.declared.outcome.Outcome.TheVariants.{Short, TooMany};
-ghost use Rattle.replay.specs.Replayed.{Written, most_orders, most_rows, outcome_number, too_many};
+ghost use Rattle.replay.specs.Replayed.{Written, most_rows, outcome_number, too_many};
 
 mod outcome;
 
