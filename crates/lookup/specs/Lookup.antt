@@ -27,6 +27,10 @@ abbrev pub is_before : {K : Type 0} → (K → K → Ordering) → K → Option 
 is_before order sought None = false
 is_before order sought (Some k) = is_lt (order k sought)
 
+-- The row at a place is present and before the key.
+abbrev pub before_at : {K : Type 0} → (K → K → Ordering) → K → List (Option K) → ℕ → Bool
+before_at order sought ks i = is_before order sought (slice_index_or ks i None)
+
 -- The row is present and has the key.
 abbrev pub is_at : {K : Type 0} → (K → K → Ordering) → K → Option K → Bool
 is_at order sought None = false

@@ -1,6 +1,6 @@
-ghost use Rattle.std.specs.Prelude.{◌≡◌, ℕ, ◌<◌, ◌≤◌, true, false, [], ◌∷◌, ◌++◌, map, length, None, slice_index_or};
+ghost use Rattle.std.specs.Prelude.{◌≡◌, ℕ, ◌+◌, ◌*◌, ◌<◌, ◌≤◌, true, false, [], ◌∷◌, ◌++◌, map, length, None, slice_index_or};
 ghost use Rattle.lookup.specs.Orders.{pair_order};
-ghost use Rattle.lookup.specs.Lookup.{seek, Found, is_before, is_at, is_above, rise, Rising, is_of, some_of};
+ghost use Rattle.lookup.specs.Lookup.{seek, Found, is_before, before_at, is_at, is_above, rise, Rising, is_of, some_of};
 
 use super::key::{Key, Pair, Row};
 use std::cmp::Ordering;
@@ -36,13 +36,48 @@ fn is_at<R: Row>(row: &R, key: &R::Key) -> bool
     row.presumed_key().cmp(key).is_eq()
 }
 
-// A place that parts rows that rise: the rows before it are before the key, and the row there is not.
+// How many of three rows are before the key, which stand a quarter apart: where rows rise, these are the first so many. All three
+// are compared whatever one of them says, so that there is no branch for the processor to guess, and none waits for another.
+fn quarters_before<R: Row>(rows: &[R], from: usize, quarter: usize, key: &R::Key) -> usize
+    requires { from + 3 * quarter < length rows.now }
+    ensures most { result ≤ 3 }
+    ensures below { rise R.Key.cmp R.named rows.now ≡ true → 0 < result → before_at R.Key.cmp key.now (map R.named rows.now) (from + result * quarter) ≡ true }
+    ensures at { rise R.Key.cmp R.named rows.now ≡ true → result < 3 → before_at R.Key.cmp key.now (map R.named rows.now) (from + (result + 1) * quarter) ≡ false }
+{
+    let first = is_before(&rows[from + quarter], key);
+    let second = is_before(&rows[from + 2 * quarter], key);
+    let third = is_before(&rows[from + 3 * quarter], key);
+    usize::from(first) + usize::from(second) + usize::from(third)
+}
+
+// The place that parts rows that rise, where it is known to be one of a few: each of these rows that is before the key moves it on.
+fn parted_among<R: Row>(rows: &[R], from: usize, size: usize, key: &R::Key) -> usize
+    requires { from + size ≤ length rows.now }
+    ensures within { result ≤ length rows.now }
+    ensures below { rise R.Key.cmp R.named rows.now ≡ true → ((j : ℕ) → j < from → before_at R.Key.cmp key.now (map R.named rows.now) j ≡ true) → (j : ℕ) → j < result → before_at R.Key.cmp key.now (map R.named rows.now) j ≡ true }
+    ensures at { rise R.Key.cmp R.named rows.now ≡ true → ((j : ℕ) → from + size ≤ j → j < length rows.now → before_at R.Key.cmp key.now (map R.named rows.now) j ≡ false) → result < length rows.now → before_at R.Key.cmp key.now (map R.named rows.now) result ≡ false }
+{
+    let mut parting = from;
+    for place in from..from + size {
+        parting += usize::from(is_before(&rows[place], key));
+    }
+    parting
+}
+
+// A place that parts rows that rise: the rows before it are before the key, and the row there is not. It halves twice at a time.
 fn before<R: Row>(rows: &[R], key: &R::Key) -> usize
     ensures within { result ≤ length rows.now }
-    ensures below { rise R.Key.cmp R.named rows.now ≡ true → (j : ℕ) → j < result → is_before R.Key.cmp key.now (slice_index_or (map R.named rows.now) j None) ≡ true }
-    ensures at { rise R.Key.cmp R.named rows.now ≡ true → result < length rows.now → is_before R.Key.cmp key.now (slice_index_or (map R.named rows.now) result None) ≡ false }
+    ensures below { rise R.Key.cmp R.named rows.now ≡ true → (j : ℕ) → j < result → before_at R.Key.cmp key.now (map R.named rows.now) j ≡ true }
+    ensures at { rise R.Key.cmp R.named rows.now ≡ true → result < length rows.now → before_at R.Key.cmp key.now (map R.named rows.now) result ≡ false }
 {
-    rows.partition_point(|row| is_before(row, key))
+    let mut from = 0;
+    let mut size = rows.len();
+    'quarters: while size > 3 {
+        let quarter = size / 4;
+        from += quarter * quarters_before(rows, from, quarter, key);
+        size -= 3 * quarter;
+    }
+    parted_among(rows, from, size, key)
 }
 
 // What `find` finds where the rows rise, by halving.

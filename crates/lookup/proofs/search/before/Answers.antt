@@ -1,15 +1,13 @@
-use Rattle.std.proofs.Common.{◌≡◌, true, Some, rules}
-use Rattle.std.proofs.lemmas.List.Sorted.{IsPartitionPoint-from_clause}
-use Rattle.lookup.specs.Lookup.{is_before, rise}
-use Rattle.lookup.proofs.Rise.{halved}
+use Rattle.std.proofs.Common.{ℕ, ◌/◌, map, arith}
+use Rattle.std.proofs.lemmas.List.{length-map}
+use Rattle.lookup.proofs.Parting.{closer, no_more}
 use Rattle.lookup.proofs.search.before.Goals as goal
 
-pub returns : goal.returns
-returns g c =
-    let order = g.R.Key.Ord.cmp in
-    let key = c.args.key.now in
+pub quarters-preserved : goal.quarters-preserved
+quarters-preserved g c =
     let rows = c.args.rows.now in
-    let i = c.partition_point.result in
-    let point = λ (up : rise order g.R.Row.named rows ≡ true). halved order g.R.Row.named g.R.Row.presumed g.met.R.Row.presumed_right g.met.R.Key.Key.total key rows i c.partition_point.ensures.bound
-    (λ p. IsPartitionPoint-from_clause (λ x. is_before order key (Some (g.R.Row.presumed x))) rows i c.partition_point.ensures.partitioned p (λ a r f k. search rules)) up in
-    record { within = c.partition_point.ensures.bound; below = λ up. (point up).0; at = λ up. (point up).1 }
+    let q : ℕ = c.quarters.size / 4 in
+    let n : ℕ = c.quarters_before.result in (
+      omega (arith, no_more q n c.quarters_before.ensures.most, c.quarters.invariant.0),
+      λ up. closer g.R.Key.Ord.cmp c.args.key.now (map g.R.Row.named rows) g.met.R.Key.Key.total up c.quarters.from c.quarters.size q n (omega arith) (omega arith) (omega arith) (omega (arith, c.quarters.invariant.0, length-map rows g.R.Row.named)) ((c.quarters_before.ensures.below up), (c.quarters_before.ensures.at up)) (c.quarters.invariant.1 up),
+    )
