@@ -8,7 +8,6 @@ ghost use Rattle.fields.specs.Scan.{scan};
 ghost use Rattle.fields.specs.Written.{Spells, RulesOut};
 
 use super::fault::FieldFault;
-use core::dec2flt::read_digits;
 use rules::range::Quantity;
 use rules::refusal::Refusal;
 use std::simd::prelude::*;
@@ -58,9 +57,13 @@ fn digits(bytes: &[u8; 16]) -> Result<u64, usize>
     if start < 15 && bytes[start] == b'0' {
         return Err(start);
     }
-    let (end, n) = read_digits(bytes, start, 0);
-    if end < 16 {
-        return Err(end);
+    let mut n: u64 = 0;
+    for i in start..16 {
+        let b = bytes[i];
+        if !b.is_ascii_digit() {
+            return Err(i);
+        }
+        n = n * 10 + u64::from(b - b'0');
     }
     Ok(n)
 }
