@@ -1,16 +1,14 @@
-ghost use Rattle.std.specs.Prelude.{◌≡◌, ◌-◌, ◌≤◌, ◌==◌, min, true, length, IfOk, Ok, Err, MatchResult};
-ghost use Rattle.std.specs.List.{prefix_len};
+ghost use Rattle.std.specs.Prelude.{◌≡◌, ℕ, ◌+◌, ◌-◌, ◌<◌, ◌≤◌, ◌==◌, ◌≢◌, List, drop, slice_index, min, true, length, IfOk, Ok, Err, MatchResult};
 ghost use Rattle.rules.specs.declared.refusal.Refusal.TheVariants.{Digits};
 ghost use Rattle.rules.specs.Ranges.{in_range, range_of};
 ghost use Rattle.fields.specs.Examples.{FieldExamples};
 ghost use Rattle.fields.specs.Reading.{reading, ranging};
-ghost use Rattle.fields.specs.Scan.{scan};
 ghost use Rattle.fields.specs.Written.{Spells, RulesOut};
 
+use super::digits::digits;
 use super::fault::FieldFault;
 use rules::range::Quantity;
 use rules::refusal::Refusal;
-use std::simd::prelude::*;
 
 // Sixteen columns of a line, and the number of the first, counted from 1.
 #[derive(Clone, Copy)]
@@ -46,36 +44,6 @@ impl Field<'_> {
         }
         Ok(n)
     }
-}
-
-// The number whose written form the sixteen bytes are, or the place of the first that rules every written form out.
-fn digits(bytes: &[u8; 16]) -> Result<u64, usize>
-    ensures is { result ≡ scan 0 0 bytes.now }
-    ensures means { MatchResult result (λ n. Spells bytes.now n) (λ k. RulesOut bytes.now k) }
-{
-    let start = leading_spaces(bytes);
-    if start < 15 && bytes[start] == b'0' {
-        return Err(start);
-    }
-    let mut n: u64 = 0;
-    for i in start..16 {
-        let b = bytes[i];
-        if !b.is_ascii_digit() {
-            return Err(i);
-        }
-        n = n * 10 + u64::from(b - b'0');
-    }
-    Ok(n)
-}
-
-// How many spaces the bytes begin with, the last byte aside. All sixteen are compared at once.
-fn leading_spaces(bytes: &[u8; 16]) -> usize
-    ensures { result ≡ min (prefix_len (λ b. b == 32) bytes.now) 15 }
-{
-    let others = u8x16::from_array(*bytes)
-        .simd_ne(u8x16::splat(b' '))
-        .to_bitmask();
-    (others.trailing_zeros() as usize).min(15)
 }
 
 // Two examples of a first field: fifteen spaces and 7, fourteen spaces and 07.

@@ -4,8 +4,8 @@ use Rattle.std.proofs.lemmas.Bool.Decides.{nat_tests}
 use Rattle.fields.proofs.Columns.{ten_le}
 use Rattle.fields.proofs.Meaning.{pow_pos_ten}
 use Rattle.fields.proofs.Turns.{stops, goes, ends, grows, spelt, ruled, digit_step, other_step, zero_step, past_spaces, behind_spaces}
-use Rattle.fields.proofs.field.digits.Goals as goal
-use Rattle.fields.proofs.field.digits.Goals.{else-start-lt15-via-then-start-lt15+else-bytes-start-eq48, else-start-lt15-via-else-start-lt15}
+use Rattle.fields.proofs.digits.walk.Goals as goal
+use Rattle.fields.proofs.digits.walk.Goals.{else-start-lt15-via-then-start-lt15+else-bytes-start-eq48, else-start-lt15-via-else-start-lt15}
 
 pub returns-then-bytes-start-eq48 : goal.returns-then-bytes-start-eq48
 returns-then-bytes-start-eq48 c =

@@ -4,7 +4,7 @@ use Rattle.std.proofs.lemmas.Bool.{ne_eqb}
 use Rattle.std.proofs.lemmas.Simd.{bitmask_splat, first_set_mask_l}
 use Rattle.std.specs.List.{prefix_len}
 use lib.Count.{count_trailing_zeros}
-use Rattle.fields.proofs.field.leading_spaces.Goals as goal
+use Rattle.fields.proofs.digits.leading_spaces.Goals as goal
 
 -- the lowest bit of the mask is the first byte that is no space; with no bit, all sixteen are spaces
 counted : (m p : ℕ) → cond (eqb m 0) 16 (count_trailing_zeros 64 m) ≡ p → min (count_trailing_zeros 64 m) 15 ≡ min p 15
