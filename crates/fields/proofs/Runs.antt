@@ -2,6 +2,7 @@
 use Rattle.std.proofs.Common.{◌≡◌, ◌==◌, ℕ, zero, suc, ◌+◌, ◌-◌, ◌*◌, ◌%◌, ◌^◌, ◌<◌, ◌≤◌, nat_le, Bool, true, false, cond, List, [], ◌∷◌, map, length, take, drop, get_or, Ok, Err, bit_and, sym, refl, ap, ap₂, subst, ◌∙◌, arith}
 use Rattle.core.specs.Prelude.{bit_xor}
 use mathlib.Core.Bool.{beq}
+use native.Mathlib.Nat.{pow-le-pow_right}
 use lib.Bits.{and_mask}
 use lib.Lanes.{Each1}
 use Rattle.std.specs.List.{count_by, prefix_len}
@@ -14,7 +15,7 @@ use Rattle.core.proofs.str.DigitValues.{number_lt}
 use Rattle.core.proofs.dec2flt.DigitsLemmas.{beq_is, every_below}
 use Rattle.std.proofs.lemmas.Bool.{eqb-true}
 use Rattle.std.proofs.lemmas.Bool.Decides.{nat_tests}
-use Rattle.std.proofs.lemmas.List.{get_or-drop, length-drop, length-take-le, take_all, take-append-drop}
+use Rattle.std.proofs.lemmas.List.{get_or-drop, length-drop, length-map, length-take-le, take_all, take-append-drop}
 use Rattle.std.proofs.lemmas.List.Sums.{count_by-le-length}
 use Rattle.std.proofs.lemmas.Int.Digits.{number_after_append}
 use Rattle.std.proofs.lemmas.Simd.{ones-mask_l, ones-mask_l_cons}
@@ -195,3 +196,13 @@ halves ds l h =
 pub as_bytes : (ds : List ℕ) → AllBelowBase 10 ds → Each1 (λ x. x < 256) ds
 as_bytes [] h = tt
 as_bytes (d ∷ ds) h = (omega (arith, h.0), as_bytes ds h.1)
+
+-- behind eight spaces or more there are eight digits at the most
+pub few : (bs : List ℕ) (k : ℕ) → 8 ≤ k → length bs ≡ 16 → digits_len (drop k bs) + k ≡ 16 → digits_value 10 (drop k bs) < 10 ^ 8
+few bs k l n h =
+    let rest : length (drop k bs) ≡ 16 - k = length-drop k bs ∙ omega arith in
+    let all : digits_len (drop k bs) ≡ length (drop k bs) = omega arith in
+    let halves_of = map (λ b. bit_and b 15) (drop k bs) in
+    let size : length halves_of ≡ 16 - k = length-map (drop k bs) (λ b. bit_and b 15) ∙ rest in
+    let most = subst (λ (m : ℕ). number_from_digits 10 halves_of < 10 ^ m) size (number_lt 10 halves_of (below_ten (drop k bs) all)) in
+    omega (arith, most, written (drop k bs) 0 all, pow-le-pow_right {n = 10} (omega arith) {i = 16 - k} {j = 8} (omega arith))

@@ -16,8 +16,9 @@ pub(crate) fn digits(bytes: &[u8; 16]) -> Result<u64, usize>
     ensures is { result ≡ scan 0 0 bytes.now }
     ensures means { MatchResult result (λ n. Spells bytes.now n) (λ k. RulesOut bytes.now k) }
 {
-    if is_written(bytes) {
-        Ok(number(bytes))
+    let start = leading_spaces(bytes);
+    if is_written(bytes, start) {
+        Ok(number(bytes, start))
     } else {
         walk(bytes)
     }
@@ -32,10 +33,10 @@ fn digit_count(bytes: u8x16) -> usize
 }
 
 // Whether the bytes are a written form: digits behind the leading spaces, the first of them no zero but the last.
-fn is_written(bytes: &[u8; 16]) -> bool
+fn is_written(bytes: &[u8; 16], start: usize) -> bool
+    requires { start ≡ spaces bytes.now }
     ensures { result ≡ true → (digits_behind bytes.now + spaces bytes.now ≡ 16) × (spaces bytes.now < 15 → slice_index bytes.now (spaces bytes.now) ≢ 48) }
 {
-    let start = leading_spaces(bytes);
     start + digit_count(u8x16::from_array(*bytes)) == 16 && (start == 15 || bytes[start] != b'0')
 }
 
@@ -49,15 +50,21 @@ fn number_of_eight(digits: u64) -> u64
     first.wrapping_add(second) >> 32
 }
 
-// The number that digits behind spaces write: the low half of a digit's byte is the digit, and that of a space is 0.
-fn number(bytes: &[u8; 16]) -> u64
+// The number that digits behind spaces write: the low half of a digit's byte is the digit, and that of a space is 0. Behind eight
+// spaces the first eight bytes write nothing.
+fn number(bytes: &[u8; 16], start: usize) -> u64
+    requires { start ≡ spaces bytes.now }
     ensures { digits_behind bytes.now + spaces bytes.now ≡ 16 → result ≡ digits_value 10 (drop (spaces bytes.now) bytes.now) }
 {
     let values = u8x16::from_array(*bytes) & u8x16::splat(0x0f);
     let [high, low] = u64x2::from_le_bytes(values).to_array();
+    let number = number_of_eight(low);
+    if start >= 8 {
+        return number;
+    }
     number_of_eight(high)
         .wrapping_mul(100_000_000)
-        .wrapping_add(number_of_eight(low))
+        .wrapping_add(number)
 }
 
 // The same byte by byte, for bytes that are no written form: it comes to the place.
