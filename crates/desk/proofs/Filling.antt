@@ -1,9 +1,12 @@
 -- A line is filled from its right end.
-use Rattle.std.proofs.Common.{◌≡◌, ℕ, zero, suc, ◌+◌, ◌-◌, ◌≤◌, Bool, true, false, List, ◌∷◌, ◌++◌, length, take, drop, replicate, sym, refl, ap, ◌∙◌, append_assoc, arith, rules, ℤ, pos, negsuc, unsigned_abs}
-use Rattle.std.proofs.lemmas.List.{replicate-append-replicate, take-append-drop}
+use Rattle.std.proofs.Common.{◌<◌, ◌^◌, [], cond, decimal, Result, subst, ◌≡◌, ℕ, zero, suc, ◌+◌, ◌-◌, ◌≤◌, Bool, true, false, List, ◌∷◌, ◌++◌, length, take, drop, replicate, sym, refl, ap, ◌∙◌, append_assoc, arith, rules, ℤ, pos, negsuc, unsigned_abs}
+use Rattle.std.proofs.lemmas.List.{length-append, length-replicate, replicate-append-replicate, take-append-drop}
+use Rattle.std.proofs.lemmas.Fmt.{length-decimal-le}
 use Rattle.std.specs.Int.{is_negative}
+use Rattle.rules.specs.declared.letter.Letter.{Letter}
+use Rattle.rules.specs.declared.refusal.Refusal.{Refusal}
 use Rattle.fields.specs.Written.{columned, in_columns}
-use Rattle.desk.specs.Printed.{Filled, signed, signed_columns}
+use Rattle.desk.specs.Printed.{Filled, event_line, order_shown, refusal_shown, signed, signed_columns}
 
 -- spaces before a text fill its columns
 pub in_field : (bytes s text : List ℕ) (first r : ℕ) → first ≡ r + (16 - length s) → Filled bytes first (s ++ text) → Filled bytes r (columned 16 s ++ text)
@@ -36,3 +39,37 @@ plain n = refl
 pub with_minus : (z : ℤ) (below : Bool) (n : ℕ) → below ≡ is_negative z → n ≡ unsigned_abs z → columned 16 (signed below n) ≡ signed_columns z
 with_minus (pos m) below n b a = let plus : is_negative (pos m) ≡ false = search rules in rw (b ∙ plus, a) refl
 with_minus (negsuc m) below n b a = let minus : is_negative (negsuc m) ≡ true = search rules in rw (b ∙ minus, a) refl
+
+-- how long a text in columns is
+pub length_columned : (s : List ℕ) → length (columned 16 s) ≡ 16 - length s + length s
+length_columned s = length-append (replicate (16 - length s) 32) s ∙ ap (λ (n : ℕ). n + length s) (length-replicate (16 - length s) 32)
+
+-- a number that has room in its columns fills them
+pub room_enough : (below : Bool) (n : ℕ) → n < 2 ^ 64 → n < cond below 1000000000000000 10000000000000000 → length (columned 16 (signed below n)) ≡ 16
+room_enough true n h l = omega (arith, length_columned (45 ∷ decimal n), length-decimal-le 15 n (omega arith) (omega arith) h)
+room_enough false n h l = omega (arith, length_columned (decimal n), length-decimal-le 16 n (omega arith) (omega arith) h)
+
+-- and no number takes more than twenty digits
+pub signed_most : (below : Bool) (n : ℕ) → n < 2 ^ 64 → length (columned 16 (signed below n)) ≤ 21
+signed_most true n h = omega (arith, length_columned (45 ∷ decimal n), length-decimal-le 20 n (omega arith) (omega arith) h)
+signed_most false n h = omega (arith, length_columned (decimal n), length-decimal-le 20 n (omega arith) (omega arith) h)
+
+pub columns_most : (n : ℕ) → n < 2 ^ 64 → length (in_columns 16 n) ≤ 21
+columns_most n h = subst (λ (t : List ℕ). length t ≤ 21) (plain n) (signed_most false n h)
+
+-- how long an event's line is
+pub line_length : (l : Letter) (shows : Result ℕ Refusal) (z : ℤ) (a b : ℕ) (below : Bool) (n : ℕ) → a ≡ refusal_shown shows → b ≡ order_shown shows → below ≡ is_negative z → n ≡ unsigned_abs z
+    → length (event_line l shows z) ≡ 2 + length (columned 16 (signed false a)) + length (columned 16 (signed false b)) + length (columned 16 (signed below n))
+line_length l shows z a b below n refusal order sign size =
+    let first = in_columns 16 (refusal_shown shows) in
+    let second = in_columns 16 (order_shown shows) in
+    let third = signed_columns z in
+    omega (
+      arith,
+      length-append first (second ++ (third ++ (10 ∷ []))),
+      length-append second (third ++ (10 ∷ [])),
+      length-append third (10 ∷ []),
+      ap length (plain a) ∙ ap (λ (k : ℕ). length (in_columns 16 k)) refusal,
+      ap length (plain b) ∙ ap (λ (k : ℕ). length (in_columns 16 k)) order,
+      ap length (with_minus z below n sign size),
+    )

@@ -1,11 +1,37 @@
-ghost use Rattle.std.specs.Prelude.{◌≡◌, ◌++◌, OnOk};
-ghost use Rattle.desk.specs.Printed.{event_line, fault_line, order_shown, printed_fault, refusal_shown};
+ghost use Rattle.std.specs.Prelude.{◌≡◌, ◌-◌, ◌≤◌, ◌∷◌, ◌++◌, [], length, true, OnOk};
+ghost use Rattle.fields.specs.Written.{columned};
+ghost use Rattle.desk.specs.Printed.{Filled, event_line, fault_line, order_shown, printed_fault, refusal_shown, signed};
 
-use super::line::Line;
+use super::line::{put, put_balance, put_byte};
 use fields::fault::DayFault;
 use rules::letter::Letter;
 use rules::refusal::Refusal;
 use std::alloc::AllocError;
+
+// An event's line that has its line feed alone: a letter and three numbers stand before it.
+const BLANK: &[u8; 50] = b"                                                 \n";
+
+// A line that has its line feed alone, with more room than a letter, five numbers of twenty digits with a sign, and a line feed take.
+fn wide_line() -> [u8; 128]
+    ensures { Filled result 127 (10 ∷ []) }
+{
+    let mut line = [b' '; 128];
+    line[127] = b'\n';
+    line
+}
+
+// Whether a number has room in sixteen columns, behind a minus where it is below 0. It never takes more than twenty-one.
+#[tactic(auto, using(crate::proofs::Filling::room_enough, crate::proofs::Filling::signed_most))]
+fn has_room(is_negative: bool, magnitude: u64) -> bool
+    ensures room { result ≡ true → length (columned 16 (signed is_negative magnitude)) ≡ 16 }
+    ensures most { length (columned 16 (signed is_negative magnitude)) ≤ 21 }
+{
+    if is_negative {
+        magnitude < 1_000_000_000_000_000
+    } else {
+        magnitude < 10_000_000_000_000_000
+    }
+}
 
 // What an event is answered with: the number of its order, 0 where it has none, or its refusal; and the balance after it.
 #[derive(Clone, Copy)]
@@ -27,16 +53,53 @@ impl EventAnswer {
         }
     }
 
-    // Writes the event's line behind a text.
+    // Fills a line that has its line feed alone, and spaces before it; answers where what it writes begins.
+    fn fill(&self, line: &mut [u8]) -> usize
+        requires room { length (event_line self.now.letter self.now.shows self.now.balance) ≤ length line.old }
+        requires blank { Filled line.old (length line.old - 1) (10 ∷ []) }
+        ensures filled { Filled line.new result (event_line self.now.letter self.now.shows self.now.balance) }
+        ensures size { length line.new ≡ length line.old }
+    {
+        let (refusal, order) = self.numbers();
+        let end = put_balance(line, line.len() - 1, self.balance);
+        let end = put(line, end, order);
+        let end = put(line, end, refusal);
+        put_byte(line, end, self.letter.byte())
+    }
+
+    // Whether each number has room in its columns; wide or not, a line has a bound.
+    fn is_narrow(&self) -> bool
+        ensures narrow { result ≡ true → length (event_line self.now.letter self.now.shows self.now.balance) ≡ 50 }
+        ensures most { length (event_line self.now.letter self.now.shows self.now.balance) ≤ 128 }
+    {
+        let (refusal, order) = self.numbers();
+        let below = self.balance.is_negative();
+        let magnitude = self.balance.unsigned_abs();
+        has_room(false, refusal) & has_room(false, order) & has_room(below, magnitude)
+    }
+
+    // Writes the event's line behind a text, in its place where each number has room in its columns.
     pub(crate) fn write(&self, out: &mut Vec<u8>) -> Result<(), AllocError>
         ensures { OnOk result (out.new.items ≡ out.old.items ++ event_line self.now.letter self.now.shows self.now.balance) }
     {
-        let (refusal, order) = self.numbers();
-        let mut line = Line::new();
-        line.put_balance(self.balance);
-        line.put(order);
-        line.put(refusal);
-        line.write(self.letter.byte(), out)
+        if !self.is_narrow() {
+            return self.write_wide(out);
+        }
+        let from = out.len();
+        out.extend_from_slice(BLANK)?;
+        self.fill(&mut out[from..]);
+        Ok(())
+    }
+
+    // Writes the event's line, however wide, behind a text.
+    #[cold]
+    fn write_wide(&self, out: &mut Vec<u8>) -> Result<(), AllocError>
+        requires { length (event_line self.now.letter self.now.shows self.now.balance) ≤ 128 }
+        ensures { OnOk result (out.new.items ≡ out.old.items ++ event_line self.now.letter self.now.shows self.now.balance) }
+    {
+        let mut line = wide_line();
+        let from = self.fill(&mut line);
+        out.extend_from_slice(&line[from..])
     }
 }
 
@@ -65,16 +128,18 @@ impl Fault {
     }
 
     // Writes the fault's line behind a text.
+    #[tactic(auto, using(crate::proofs::Filling::columns_most))]
     pub(crate) fn write(&self, out: &mut Vec<u8>) -> Result<(), AllocError>
         ensures { OnOk result (out.new.items ≡ out.old.items ++ printed_fault self.now) }
     {
         let (cause, column, letter, line, part) = self.numbers();
-        let mut printed = Line::new();
-        printed.put(part);
-        printed.put(line);
-        printed.put(letter);
-        printed.put(column);
-        printed.put(cause);
-        printed.write(b'!', out)
+        let mut printed = wide_line();
+        let end = put(&mut printed, 127, part);
+        let end = put(&mut printed, end, line);
+        let end = put(&mut printed, end, letter);
+        let end = put(&mut printed, end, column);
+        let end = put(&mut printed, end, cause);
+        let from = put_byte(&mut printed, end, b'!');
+        out.extend_from_slice(&printed[from..])
     }
 }
