@@ -58,13 +58,10 @@ fn number(bytes: &[u8; 16], start: usize) -> u64
 {
     let values = u8x16::from_array(*bytes) & u8x16::splat(0x0f);
     let [high, low] = u64x2::from_le_bytes(values).to_array();
-    let number = number_of_eight(low);
-    if start >= 8 {
-        return number;
-    }
-    number_of_eight(high)
+    let above = if start < 8 { number_of_eight(high) } else { 0 };
+    above
         .wrapping_mul(100_000_000)
-        .wrapping_add(number)
+        .wrapping_add(number_of_eight(low))
 }
 
 // The same byte by byte, for bytes that are no written form: it comes to the place.
