@@ -58,7 +58,7 @@ pub(super) fn lent<'x, 'a>(
 }
 
 // A security that closed at 10 yuan, and may leave that by ten percent.
-pub(super) fn security(code: u64, buying: Buying) -> Security {
+pub(super) fn security(code: u32, buying: Buying) -> Security {
     Security {
         code,
         buying,
@@ -68,7 +68,7 @@ pub(super) fn security(code: u64, buying: Buying) -> Security {
 }
 
 // What participant 101 holds at the opening.
-fn own_shares(code: u64, shares: u64) -> ParticipantHolding {
+fn own_shares(code: u32, shares: u64) -> ParticipantHolding {
     ParticipantHolding {
         owner: Participant(101),
         code,

@@ -6,7 +6,7 @@ use super::group::Entry;
 use super::rows::{HeldLine, designation, security};
 use super::run::Run;
 use fields::fault::FieldFault;
-use lookup::key::{Key, Pair};
+use lookup::key::{Key, Pair, Row};
 use rules::letter::Letter;
 use rules::refusal::Refusal;
 use tables::rows::{Designation, Holding, Security};
@@ -84,7 +84,7 @@ impl Entry for Security {
     }
 
     fn step(last: Option<u64>, row: &Security) -> Result<Option<u64>, FieldFault> {
-        rising(last, row.code)
+        rising(last, row.presumed_key())
     }
 }
 
@@ -108,11 +108,7 @@ impl<O: HeldLine> Entry for Holding<O> {
     }
 
     fn step(last: Option<Pair>, row: &Holding<O>) -> Result<Option<Pair>, FieldFault> {
-        let key = Pair {
-            first: row.owner.number(),
-            second: row.code,
-        };
-        rising(last, key)
+        rising(last, row.presumed_key())
     }
 }
 
@@ -136,12 +132,6 @@ impl Entry for Designation {
     }
 
     fn step(run: Option<Run>, row: &Designation) -> Result<Option<Run>, FieldFault> {
-        designated(
-            run,
-            Pair {
-                first: row.account,
-                second: row.participant,
-            },
-        )
+        designated(run, row.presumed_key())
     }
 }

@@ -1,10 +1,11 @@
-ghost use Rattle.std.specs.Prelude.{◌≡◌, ℕ, ◌≤◌, List, [], ◌∷◌, length, Ok};
+ghost use Rattle.std.specs.Prelude.{◌≡◌, ℕ, ◌<◌, ◌≤◌, ◌^◌, List, [], ◌∷◌, length, Ok};
 ghost use Rattle.rules.specs.declared.letter.Letter.{Letter as a_letter};
 ghost use Rattle.tables.specs.declared.rows.Holding.{Holding as a_holding};
 ghost use Rattle.fields.specs.Layout.{width_of};
 ghost use Rattle.std.proofs.Common.{rules};
 ghost use Rattle.rules.specs.declared.letter.Letter.TheVariants as letter;
 ghost use Rattle.rules.specs.declared.range.Quantity.TheVariants as quantity;
+ghost use Rattle.rules.specs.Ranges.{range_of};
 ghost use Rattle.fields.specs.Faults.{and_then};
 ghost use Rattle.fields.specs.Reading.{ranging};
 ghost use Rattle.dayfile.specs.Rows.{security_of, held_of, designation_of, out_of_place, misplaced, line_of};
@@ -98,8 +99,17 @@ pub(crate) fn out_of_group(line: &[u8]) -> FieldFault
     }
 }
 
+// The number of a field in the range of a quantity whose numbers have 32 bits.
+fn short(field: Field, quantity: Quantity) -> Result<u32, FieldFault>
+    requires { (range_of quantity).most < 2 ^ 32 }
+    ensures { result ≡ ranging quantity field.entry.bytes.now field.entry.column }
+{
+    let n = field.ranged(quantity)?;
+    Ok(n as u32)
+}
+
 // The row of an S line's numbers.
-fn listed(code: u64, mode: u64, close: u64, percent: u64) -> Result<Security, FieldFault>
+fn listed(code: u32, mode: u64, close: u32, percent: u64) -> Result<Security, FieldFault>
     ensures { result ≡ security_of (code ∷ (mode ∷ (close ∷ (percent ∷ [])))) }
 {
     let buying = Buying::try_from(mode).map_err(|cause| FieldFault { cause, column: 18 })?;
@@ -122,9 +132,9 @@ pub(crate) fn security(line: &[u8]) -> Result<Security, FieldFault>
             close,
             band,
         } => {
-            let code = code.ranged(Quantity::Code)?;
+            let code = short(code, Quantity::Code)?;
             let mode = mode.ranged(Quantity::Mode)?;
-            let close = close.ranged(Quantity::Close)?;
+            let close = short(close, Quantity::Close)?;
             let percent = band.ranged(Quantity::Band)?;
             listed(code, mode, close, percent)
         }
@@ -136,8 +146,8 @@ pub(crate) fn security(line: &[u8]) -> Result<Security, FieldFault>
 fn held<O: Owner>(owner: Field, code: Field, shares: Field) -> Result<Holding<O>, FieldFault>
     ensures { result ≡ and_then (ranging O.NUMBERS owner.entry.bytes.now owner.entry.column) (λ o. and_then (ranging quantity.Code code.entry.bytes.now code.entry.column) (λ c. and_then (ranging quantity.Holding shares.entry.bytes.now shares.entry.column) (λ s. held_of O.of (o ∷ (c ∷ (s ∷ [])))))) }
 {
-    let owner = O::of(owner.ranged(O::NUMBERS)?);
-    let code = code.ranged(Quantity::Code)?;
+    let owner = O::of(short(owner, O::NUMBERS)?);
+    let code = short(code, Quantity::Code)?;
     let opening = shares.ranged(Quantity::Holding)?;
     Ok(Holding {
         owner,
@@ -210,8 +220,8 @@ pub(crate) fn designation(line: &[u8]) -> Result<Designation, FieldFault>
             account,
             participant,
         } => {
-            let account = account.ranged(Quantity::Account)?;
-            let participant = participant.ranged(Quantity::Participant)?;
+            let account = short(account, Quantity::Account)?;
+            let participant = short(participant, Quantity::Participant)?;
             Ok(Designation {
                 account,
                 participant,

@@ -28,8 +28,8 @@ fn line_of(list: &SecurityList, code: u64) -> Option<Security>
 fn is_beyond_limits(security: Security, price: u64) -> bool
     ensures { result ≡ beyond_limits security price }
 {
-    let price = price as u128;
-    price < security.band.lowest(security.close) || price > security.band.highest(security.close)
+    let (price, close) = (u128::from(price), u64::from(security.close));
+    price < security.band.lowest(close) || price > security.band.highest(close)
 }
 
 // The listed security of a request that keeps the rules of every request.

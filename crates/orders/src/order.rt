@@ -27,21 +27,21 @@ impl State {
     }
 }
 
-// The record of an order: what was asked, what became of it, and the pool that a sell draws on, 0 for a buy. The short fields
-// stand last, so that a record takes 80 bytes.
+// The record of an order: what was asked, what became of it, and the pool that a sell draws on, 0 for a buy. What every call on an
+// order judges stands first, so that it lies in one line of the cache or in two.
 #[derive(Clone, Copy, PartialEq, Eq, Debug)]
 pub struct Order {
-    pub participant: u64,
-    pub account: u64,
-    pub code: u64,
     pub price: u64,
     pub shares: u64,
     pub filled: u64,
     pub returned: u64,
     pub traded: u64,
-    pub pool: usize,
     pub side: Side,
     pub state: State,
+    pub participant: u64,
+    pub account: u64,
+    pub code: u64,
+    pub pool: usize,
 }
 
 // An empty row of a book, which is no sound record.

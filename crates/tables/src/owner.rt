@@ -1,4 +1,6 @@
-ghost use Rattle.std.specs.Prelude.{◌≡◌, ℕ};
+ghost use Rattle.std.specs.Prelude.{◌≡◌, ℕ, ◌<◌, ◌^◌};
+ghost use Rattle.std.proofs.Common.{rules};
+ghost use Rattle.rules.specs.Ranges.{range_of};
 ghost use Rattle.rules.specs.declared.range.Quantity.{Quantity as a_quantity};
 ghost use Rattle.rules.specs.declared.range.Quantity.TheVariants as quantity;
 ghost use Rattle.tables.specs.Owners.{participant, account};
@@ -13,6 +15,9 @@ pub trait Owner: Copy {
 
     ghost of: { ℕ → Self };
 
+    // A number of 32 bits is enough.
+    ghost short: { (range_of NUMBERS).most < 2 ^ 32 };
+
     // What the owners' numbers are.
     const NUMBERS: Quantity;
 
@@ -20,17 +25,17 @@ pub trait Owner: Copy {
         ensures { result ≡ number self };
 
     // The owner of a number.
-    fn of(n: u64) -> Self
+    fn of(n: u32) -> Self
         ensures { result ≡ of n };
 }
 
 // A participant, by its number.
 #[derive(Clone, Copy, PartialEq, Eq, Debug)]
-pub struct Participant(pub u64);
+pub struct Participant(pub u32);
 
 // An investor's account, by its number.
 #[derive(Clone, Copy, PartialEq, Eq, Debug)]
-pub struct Account(pub u64);
+pub struct Account(pub u32);
 
 impl Owner for Participant {
     ghost NUMBERS = { quantity.Participant };
@@ -39,14 +44,16 @@ impl Owner for Participant {
 
     ghost of = { participant };
 
+    ghost short = { Prim.search rules };
+
     const NUMBERS: Quantity = Quantity::Participant;
 
     fn number(self) -> u64 {
         let Participant(number) = self;
-        number
+        u64::from(number)
     }
 
-    fn of(n: u64) -> Participant {
+    fn of(n: u32) -> Participant {
         Participant(n)
     }
 }
@@ -58,14 +65,16 @@ impl Owner for Account {
 
     ghost of = { account };
 
+    ghost short = { Prim.search rules };
+
     const NUMBERS: Quantity = Quantity::Account;
 
     fn number(self) -> u64 {
         let Account(number) = self;
-        number
+        u64::from(number)
     }
 
-    fn of(n: u64) -> Account {
+    fn of(n: u32) -> Account {
         Account(n)
     }
 }

@@ -13,8 +13,8 @@ use rules::range::Quantity;
 // a row takes 24 bytes.
 #[derive(Clone, Copy, PartialEq, Eq, Debug)]
 pub struct Security {
-    pub code: u64,
-    pub close: u64,
+    pub code: u32,
+    pub close: u32,
     pub buying: Buying,
     pub band: PriceBand,
 }
@@ -23,7 +23,7 @@ pub struct Security {
 #[derive(Clone, Copy, PartialEq, Eq, Debug)]
 pub struct Holding<O> {
     pub owner: O,
-    pub code: u64,
+    pub code: u32,
     pub opening: u64,
     pub sellable: u64,
 }
@@ -37,8 +37,8 @@ pub type ParticipantHolding = Holding<Participant>;
 // An account has designated a participant.
 #[derive(Clone, Copy, PartialEq, Eq, Debug)]
 pub struct Designation {
-    pub account: u64,
-    pub participant: u64,
+    pub account: u32,
+    pub participant: u32,
 }
 
 impl Security {
@@ -46,7 +46,7 @@ impl Security {
     pub(crate) fn is_present(&self) -> bool
         ensures { result ≡ security_present self.now }
     {
-        Quantity::Code.has(self.code) && Quantity::Close.has(self.close)
+        Quantity::Code.has(u64::from(self.code)) && Quantity::Close.has(u64::from(self.close))
     }
 }
 
@@ -56,7 +56,7 @@ impl<O: Owner> Holding<O> {
         ensures { result ≡ held_present O.NUMBERS O.number self.now }
     {
         O::NUMBERS.has(self.owner.number())
-            && Quantity::Code.has(self.code)
+            && Quantity::Code.has(u64::from(self.code))
             && Quantity::Holding.has(self.opening)
             && self.sellable <= self.opening
     }
@@ -67,7 +67,8 @@ impl Designation {
     pub(crate) fn is_present(&self) -> bool
         ensures { result ≡ designation_present self.now }
     {
-        Quantity::Account.has(self.account) && Quantity::Participant.has(self.participant)
+        Quantity::Account.has(u64::from(self.account))
+            && Quantity::Participant.has(u64::from(self.participant))
     }
 }
 
@@ -123,7 +124,7 @@ impl Row for Security {
     }
 
     fn presumed_key(&self) -> u64 {
-        self.code
+        u64::from(self.code)
     }
 
     ghost presumed_right = { λ s k e. (cond_some (security_present s) s.code k e).1 };
@@ -143,7 +144,7 @@ impl<O: Owner> Row for Holding<O> {
     fn presumed_key(&self) -> Pair {
         Pair {
             first: self.owner.number(),
-            second: self.code,
+            second: u64::from(self.code),
         }
     }
 
@@ -163,8 +164,8 @@ impl Row for Designation {
 
     fn presumed_key(&self) -> Pair {
         Pair {
-            first: self.account,
-            second: self.participant,
+            first: u64::from(self.account),
+            second: u64::from(self.participant),
         }
     }
 

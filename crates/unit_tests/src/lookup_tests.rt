@@ -7,7 +7,7 @@ use rules::refusal::Refusal;
 use tables::rows::{AccountHolding, Designation, Security};
 use tables::table::{AccountHoldings, Designations, SecurityList};
 
-fn security(code: u64, close: u64) -> Security {
+fn security(code: u32, close: u32) -> Security {
     Security {
         code,
         buying: Buying::Open,
@@ -16,7 +16,7 @@ fn security(code: u64, close: u64) -> Security {
     }
 }
 
-fn designation(account: u64, participant: u64) -> Designation {
+fn designation(account: u32, participant: u32) -> Designation {
     Designation {
         account,
         participant,

@@ -7,7 +7,7 @@ use tables::owner::{Account, Participant};
 use tables::rows::{AccountHolding, Designation, ParticipantHolding};
 use tables::table::{AccountHoldings, Designations, Holdings};
 
-fn holding(participant: u64, sellable: u64) -> ParticipantHolding {
+fn holding(participant: u32, sellable: u64) -> ParticipantHolding {
     ParticipantHolding {
         owner: Participant(participant),
         code: 1,
