@@ -4,7 +4,7 @@ use rules::side::Side;
 use std::test::Fail;
 
 // What became of an order: the shares traded, the shares returned, the value traded, and the state.
-fn fate(order: Order) -> (u64, u64, u64, State) {
+fn fate(order: Order) -> (u32, u32, u64, State) {
     (order.filled, order.returned, order.traded, order.state)
 }
 

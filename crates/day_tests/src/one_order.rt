@@ -32,7 +32,7 @@ pub(super) fn held(side: Side) -> Order {
 }
 
 // The same order later: the shares traded, the shares returned, what those traded are worth, and the state.
-pub(super) fn later(order: Order, filled: u64, returned: u64, traded: u64, state: State) -> Order {
+pub(super) fn later(order: Order, filled: u32, returned: u32, traded: u64, state: State) -> Order {
     Order {
         filled,
         returned,

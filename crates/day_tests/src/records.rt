@@ -21,7 +21,7 @@ fn answer_over(record: Order, call: Call) -> Result<(u64, bool), Refusal> {
 }
 
 // The same order at another price, and of other shares.
-fn of(order: Order, price: u64, shares: u64) -> Order {
+fn of(order: Order, price: u32, shares: u32) -> Order {
     Order {
         price,
         shares,
@@ -50,7 +50,7 @@ fn a_broken_record_is_unsound_to_every_call(rt: HostRuntime) -> Result<(), Fail>
         ("no shares", of(sound, 1000, 0)),
         ("1000001 shares", of(sound, 1000, 1_000_001)),
         ("returned too many", later(sound, 60, 41, 0, state)),
-        ("traded too many", later(sound, u64::MAX, 0, 0, state)),
+        ("traded too many", later(sound, u32::MAX, 0, 0, state)),
         ("worth too much", later(sound, 1, 0, 1_000_000, state)),
         ("live with none left", later(sound, 60, 40, 0, state)),
         ("done with some left", later(sound, 60, 39, 0, State::Done)),

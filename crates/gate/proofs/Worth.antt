@@ -14,6 +14,8 @@ use Rattle.rules.specs.Sides.{side_rules}
 use Rattle.tables.specs.declared.rows.Security.{Security}
 use Rattle.tables.specs.Rows.{security_present}
 use Rattle.orders.specs.declared.order.Request.{Request}
+use Rattle.std.proofs.lemmas.Bool.Decides.{nat_tests}
+use Rattle.orders.specs.Records.{fits_record}
 use Rattle.orders.proofs.Passed.{passed}
 use Rattle.orders.proofs.Sound.{in_ends}
 use Rattle.gate.specs.declared.figures.Figures.{Figures}
@@ -35,15 +37,24 @@ lot_most : (side : Side) (shares : ℕ) → in_range (side_rules side).lot share
 lot_most Buy shares e = (in_ends (side_rules Buy).lot shares e).1
 lot_most Sell shares e = (in_ends (side_rules Sell).lot shares e).1
 
--- the value of a request that keeps the rules of every request is within the balance's bounds
-pub request_worth : (f : Figures) (line : Option Security) (s : Security) (room : ℕ) (a : Request) → line ≡ Some s → security_present s ≡ true → None ≡ first_broken (request_rules f line room a) → a.price * a.shares ≤ most_balance
-request_worth f line s room a e p h =
+-- price and shares of a request that keeps the rules of every request
+pub request_most : (f : Figures) (line : Option Security) (s : Security) (room : ℕ) (a : Request) → line ≡ Some s → security_present s ≡ true → None ≡ first_broken (request_rules f line room a) → (a.price ≤ 999999) × (a.shares ≤ 1000000)
+request_most f line s room a e p h =
     let kept : first_broken (request_rules f (Some s) room a) ≡ None = sym (rw e at h) in
     let hours = passed (not (phase_rules f.phase).orders) _ _ kept in
     let full = passed (leb room f.count || leb most_orders f.count) _ _ hours.1 in
     let price = passed (beyond_limits s a.price) _ _ full.1 in
     let lot = passed (not (in_range (side_rules a.side).lot a.shares)) _ _ price.1 in
     let below = ltb-false (highest_price s.close s.band) a.price (or_parts (ltb a.price (lowest_price s.close s.band)) _ price.0).1 in
-    let many = lot_most a.side a.shares (not-false _ lot.0) in
-    let worth : a.price * a.shares ≤ 999999 * 1000000 = mul-le-mul (le_trans below (highest_most s p)) many in
+    (le_trans below (highest_most s p), lot_most a.side a.shares (not-false _ lot.0))
+
+-- its value is within the balance's bounds
+pub request_worth : (f : Figures) (line : Option Security) (s : Security) (room : ℕ) (a : Request) → line ≡ Some s → security_present s ≡ true → None ≡ first_broken (request_rules f line room a) → a.price * a.shares ≤ most_balance
+request_worth f line s room a e p h =
+    let most = request_most f line s room a e p h in
+    let worth : a.price * a.shares ≤ 999999 * 1000000 = mul-le-mul most.0 most.1 in
     le_trans worth (lit≤ tt)
+
+-- and a record has room for it
+pub request_fits : (a : Request) → (a.price ≤ 999999) × (a.shares ≤ 1000000) → fits_record a ≡ true
+request_fits a m = grind (arith, nat_tests, m.0, m.1)

@@ -88,7 +88,10 @@ impl TradingDay {
         let f = self.figures;
         let security = security_for(f, list, book.len(), request)?;
         let pool = take_for(f, security, participants, accounts, request)?;
-        book[f.count as usize] = request.held(pool);
+        let Some(order) = request.held(pool) else {
+            unreachable!()
+        };
+        book[f.count as usize] = order;
         self.figures = reserved(f, request);
         Ok(Pass {
             market: f.market,

@@ -1,5 +1,5 @@
 -- The record of an order, and when it is sound.
-use Rattle.std.specs.Prelude.{ℕ, ◌+◌, ◌-◌, ◌*◌, Bool, true, false, not, ◌&&◌, ◌==◌, nat_le}
+use Rattle.std.specs.Prelude.{ℕ, ◌+◌, ◌-◌, ◌*◌, Bool, true, false, not, ◌&&◌, ◌==◌, nat_le, nat_lt, ◌^◌}
 use Rattle.rules.specs.declared.range.Quantity.TheVariants as quantity
 use Rattle.rules.specs.declared.side.Side.TheVariants.{Buy}
 use Rattle.rules.specs.Ranges.{in_range, range_of}
@@ -66,6 +66,10 @@ sound_order o =
 -- An empty row of a book.
 abbrev pub no_order : Order
 no_order = record { participant = 0; account = 0; code = 0; side = Buy; price = 0; shares = 0; filled = 0; returned = 0; traded = 0; pool = 0; state = Held }
+
+-- A record has room for the price and the shares of a request.
+abbrev pub fits_record : Request → Bool
+fits_record a = nat_lt a.price (2 ^ 32) && nat_lt a.shares (2 ^ 32)
 
 -- The record that an accepted request leaves, with the pool that it draws on: nothing is traded or returned yet.
 abbrev pub held_order : Request → ℕ → Order

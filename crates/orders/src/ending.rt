@@ -16,7 +16,7 @@ impl Order {
         ensures small { result ≤ most_worth }
     {
         match self.side {
-            Side::Buy => self.price * self.remainder(),
+            Side::Buy => u64::from(self.price) * self.remainder(),
             Side::Sell => 0,
         }
     }
@@ -30,7 +30,7 @@ impl Order {
         let raise = self.freed();
         Outcome {
             order: Order {
-                returned: self.returned + self.remainder(),
+                returned: self.returned + self.remainder() as u32,
                 state: State::Done,
                 ..self
             },

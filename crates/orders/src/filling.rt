@@ -17,9 +17,10 @@ impl Order {
         if shares == 0 || shares > self.remainder() || !Quantity::Price.has(price) {
             return true;
         }
+        let limit = u64::from(self.price);
         match self.side {
-            Side::Buy => price > self.price,
-            Side::Sell => price < self.price,
+            Side::Buy => price > limit,
+            Side::Sell => price < limit,
         }
     }
 
@@ -31,7 +32,7 @@ impl Order {
     {
         let last = self.remainder() == shares;
         Order {
-            filled: self.filled + shares,
+            filled: self.filled + shares as u32,
             traded: self.traded + price * shares,
             state: if last { State::Done } else { self.state },
             ..self
@@ -46,7 +47,7 @@ impl Order {
         ensures small { result ≤ most_worth }
     {
         match self.side {
-            Side::Buy => (self.price - price) * shares,
+            Side::Buy => (u64::from(self.price) - price) * shares,
             Side::Sell => price * shares,
         }
     }

@@ -1,31 +1,31 @@
-ghost use Rattle.std.specs.Prelude.{◌≡◌, IfOk};
+ghost use Rattle.std.specs.Prelude.{◌≡◌, cond, IfOk, None, Some};
 ghost use Rattle.rules.specs.Rules.{first_broken, refusal_in};
 ghost use Rattle.orders.specs.declared.order.Cancel.TheVariants as cancel;
 ghost use Rattle.orders.specs.declared.order.State.TheVariants as state;
 ghost use Rattle.orders.specs.Faults.{cancel_asked_faults, cancel_faults, pass_faults};
-ghost use Rattle.orders.specs.Records.{held_order, with_state};
+ghost use Rattle.orders.specs.Records.{fits_record, held_order, with_state};
 
 use super::order::{Cancel, Order, Request, State};
 use rules::refusal::Refusal;
 
 impl Request {
-    // The record of a request that is accepted, with the pool that it draws on.
-    pub fn held(self, pool: usize) -> Order
-        ensures { result ≡ held_order self pool }
+    // The record of a request that is accepted, with the pool that it draws on; none where a record has no room for its numbers.
+    pub fn held(self, pool: usize) -> Option<Order>
+        ensures { result ≡ cond (fits_record self) (Some (held_order self pool)) None }
     {
-        Order {
+        Some(Order {
             participant: self.participant,
             account: self.account,
             code: self.code,
             side: self.side,
-            price: self.price,
-            shares: self.shares,
+            price: u32::try_from(self.price).ok()?,
+            shares: u32::try_from(self.shares).ok()?,
             filled: 0,
             returned: 0,
             traded: 0,
             pool,
             state: State::Held,
-        }
+        })
     }
 }
 

@@ -12,9 +12,8 @@ impl Order {
     pub fn remainder(self) -> u64
         ensures { result ≡ remainder self }
     {
-        self.shares
-            .saturating_sub(self.filled)
-            .saturating_sub(self.returned)
+        let rest = self.shares.saturating_sub(self.filled);
+        u64::from(rest.saturating_sub(self.returned))
     }
 
     // Whether no more is traded and returned than was asked.
@@ -28,10 +27,10 @@ impl Order {
     pub fn is_sound(self) -> bool
         ensures { result ≡ sound_order self }
     {
-        if !Quantity::Price.has(self.price) || !Quantity::Shares.has(self.shares) {
+        if !Quantity::Price.has(u64::from(self.price)) || !Quantity::Shares.has(u64::from(self.shares)) {
             return false;
         }
-        if !self.is_within() || self.traded as u128 > MOST_PRICE as u128 * self.filled as u128 {
+        if !self.is_within() || self.traded > MOST_PRICE * u64::from(self.filled) {
             return false;
         }
         match self.state {

@@ -6,4 +6,5 @@ pub returns-in-Buy-clause-small : goal.returns-in-Buy-clause-small
 returns-in-Buy-clause-small c =
     let fine = fine_from c.args.self c.requires in
     let few : c.remainder.result ≤ 1000000 = omega arith in
-    worth_most c.args.self.price c.remainder.result fine.price_most few
+    let most : c.from.result ≤ 999999 = omega (arith, fine.price_most, c.from.ensures) in
+    worth_most c.from.result c.remainder.result most few
