@@ -62,6 +62,20 @@ fn a_broken_record_is_unsound_to_every_call(rt: HostRuntime) -> Result<(), Fail>
     Ok(())
 }
 
+// 4,294,967,296 is the first number that a record has no room for.
+#[test]
+fn a_request_of_wider_numbers_has_no_record(rt: HostRuntime) -> Result<(), Fail> {
+    for (price, shares, has) in [
+        (4_294_967_295, 4_294_967_295, true),
+        (4_294_967_296, 100, false),
+        (1000, 4_294_967_296, false),
+    ] {
+        let record = request(Side::Buy, price, shares).held(0);
+        assert_eq!(rt; record.is_some(), has, "{shares} at {price}");
+    }
+    Ok(())
+}
+
 // The registers' pool has all of its shares, so that it takes none back; and there is no second pool.
 #[test]
 fn of_two_rules_that_a_call_breaks_the_first_is_answered(rt: HostRuntime) -> Result<(), Fail> {

@@ -27,7 +27,9 @@ impl Order {
     pub fn is_sound(self) -> bool
         ensures { result ≡ sound_order self }
     {
-        if !Quantity::Price.has(u64::from(self.price)) || !Quantity::Shares.has(u64::from(self.shares)) {
+        if !Quantity::Price.has(u64::from(self.price))
+            || !Quantity::Shares.has(u64::from(self.shares))
+        {
             return false;
         }
         if !self.is_within() || self.traded > MOST_PRICE * u64::from(self.filled) {

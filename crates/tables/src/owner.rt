@@ -1,5 +1,5 @@
 ghost use Rattle.std.specs.Prelude.{◌≡◌, ℕ, ◌<◌, ◌^◌};
-ghost use Rattle.std.proofs.Common.{rules};
+ghost use Rattle.std.proofs.Common.{lit≤};
 ghost use Rattle.rules.specs.Ranges.{range_of};
 ghost use Rattle.rules.specs.declared.range.Quantity.{Quantity as a_quantity};
 ghost use Rattle.rules.specs.declared.range.Quantity.TheVariants as quantity;
@@ -44,7 +44,7 @@ impl Owner for Participant {
 
     ghost of = { participant };
 
-    ghost short = { Prim.search rules };
+    ghost short = { lit≤ tt };
 
     const NUMBERS: Quantity = Quantity::Participant;
 
@@ -65,7 +65,7 @@ impl Owner for Account {
 
     ghost of = { account };
 
-    ghost short = { Prim.search rules };
+    ghost short = { lit≤ tt };
 
     const NUMBERS: Quantity = Quantity::Account;
 
