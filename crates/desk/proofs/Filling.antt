@@ -1,12 +1,10 @@
 -- A line is filled from its right end.
-use Rattle.std.proofs.Common.{◌<◌, ◌^◌, [], cond, decimal, Result, subst, ◌≡◌, ℕ, zero, suc, ◌+◌, ◌-◌, ◌≤◌, Bool, true, false, List, ◌∷◌, ◌++◌, length, take, drop, replicate, sym, refl, ap, ◌∙◌, append_assoc, arith, rules, ℤ, pos, negsuc, unsigned_abs}
+use Rattle.std.proofs.Common.{◌<◌, ◌^◌, [], cond, decimal, subst, ◌≡◌, ℕ, zero, suc, ◌+◌, ◌-◌, ◌≤◌, Bool, true, false, List, ◌∷◌, ◌++◌, length, take, drop, replicate, sym, refl, ap, ◌∙◌, append_assoc, arith, lit<, rules, ℤ, pos, negsuc, unsigned_abs}
 use Rattle.std.proofs.lemmas.List.{length-append, length-replicate, replicate-append-replicate, take-append-drop}
 use Rattle.std.proofs.lemmas.Fmt.{length-decimal-le}
 use Rattle.std.specs.Int.{is_negative}
-use Rattle.rules.specs.declared.letter.Letter.{Letter}
-use Rattle.rules.specs.declared.refusal.Refusal.{Refusal}
 use Rattle.fields.specs.Written.{columned, in_columns}
-use Rattle.desk.specs.Printed.{Filled, event_line, order_shown, refusal_shown, signed, signed_columns}
+use Rattle.desk.specs.Printed.{Filled, signed, signed_columns}
 
 -- spaces before a text fill its columns
 pub in_field : (bytes s text : List ℕ) (first r : ℕ) → first ≡ r + (16 - length s) → Filled bytes first (s ++ text) → Filled bytes r (columned 16 s ++ text)
@@ -57,19 +55,16 @@ signed_most false n h = omega (arith, length_columned (decimal n), length-decima
 pub columns_most : (n : ℕ) → n < 2 ^ 64 → length (in_columns 16 n) ≤ 21
 columns_most n h = subst (λ (t : List ℕ). length t ≤ 21) (plain n) (signed_most false n h)
 
--- how long an event's line is
-pub line_length : (l : Letter) (shows : Result ℕ Refusal) (z : ℤ) (a b : ℕ) (below : Bool) (n : ℕ) → a ≡ refusal_shown shows → b ≡ order_shown shows → below ≡ is_negative z → n ≡ unsigned_abs z
-    → length (event_line l shows z) ≡ 2 + length (columned 16 (signed false a)) + length (columned 16 (signed false b)) + length (columned 16 (signed below n))
-line_length l shows z a b below n refusal order sign size =
-    let first = in_columns 16 (refusal_shown shows) in
-    let second = in_columns 16 (order_shown shows) in
-    let third = signed_columns z in
-    omega (
-      arith,
-      length-append first (second ++ (third ++ (10 ∷ []))),
-      length-append second (third ++ (10 ∷ [])),
-      length-append third (10 ∷ []),
-      ap length (plain a) ∙ ap (λ (k : ℕ). length (in_columns 16 k)) refusal,
-      ap length (plain b) ∙ ap (λ (k : ℕ). length (in_columns 16 k)) order,
-      ap length (with_minus z below n sign size),
-    )
+-- a balance that has room in its columns fills them
+pub balance_room : (z : ℤ) (below : Bool) (n : ℕ) → below ≡ is_negative z → n ≡ unsigned_abs z → length (columned 16 (signed below n)) ≡ 16 → length (signed_columns z) ≡ 16
+balance_room z below n sign size room = sym (ap length (with_minus z below n sign size)) ∙ room
+
+-- a balance of 0 has room
+pub zero_room : length (signed_columns (pos 0)) ≡ 16
+zero_room = balance_room (pos 0) false 0 (search rules) refl (room_enough false 0 (lit< tt) (lit< tt))
+
+-- a balance that fills its columns stands behind spaces alone
+pub on_form : (line : List ℕ) (z : ℤ) (r : ℕ) → r + length (signed_columns z) ≡ 49 → length (signed_columns z) ≡ 16 → Filled line r (signed_columns z ++ (10 ∷ [])) → Filled line 33 (signed_columns z ++ (10 ∷ []))
+on_form line z r begins size filled =
+    let place : r ≡ 33 = omega (arith, begins, size) in
+    subst (λ (k : ℕ). Filled line k (signed_columns z ++ (10 ∷ []))) place filled

@@ -56,11 +56,13 @@ pub(crate) fn put(line: &mut [u8], end: usize, n: u64) -> usize
     put_columns(line, end, false, n)
 }
 
-// Puts a balance into sixteen columns.
+// Puts a balance into sixteen columns, or as many as it needs.
+#[tactic(auto, using(crate::proofs::Filling::signed_most))]
 pub(crate) fn put_balance(line: &mut [u8], end: usize, balance: i64) -> usize
-    requires { length (signed_columns balance) ≤ end × end ≤ length line.old }
+    requires { 21 ≤ end × end ≤ length line.old }
     ensures filled { (text : List ℕ) → Filled line.old end text → Filled line.new result (signed_columns balance ++ text) }
     ensures room { result + length (signed_columns balance) ≡ end }
+    ensures most { end ≤ result + 21 }
     ensures size { length line.new ≡ length line.old }
 {
     put_columns(line, end, balance.is_negative(), balance.unsigned_abs())

@@ -1,6 +1,6 @@
-ghost use Rattle.std.specs.Prelude.{◌≡◌, ◌-◌, ◌≤◌, ◌∷◌, ◌++◌, [], length, true, OnOk};
-ghost use Rattle.fields.specs.Written.{columned};
-ghost use Rattle.desk.specs.Printed.{Filled, event_line, fault_line, order_shown, printed_fault, refusal_shown, signed};
+ghost use Rattle.std.specs.Prelude.{◌≡◌, ◌+◌, ◌≤◌, ◌∷◌, ◌++◌, [], length, true, OnOk};
+ghost use Rattle.fields.specs.Written.{columned, in_columns};
+ghost use Rattle.desk.specs.Printed.{Filled, event_line, fault_line, order_shown, printed_fault, refusal_shown, signed, signed_columns};
 
 use super::line::{put, put_balance, put_byte};
 use fields::fault::DayFault;
@@ -33,6 +33,48 @@ fn has_room(is_negative: bool, magnitude: u64) -> bool
     }
 }
 
+// A form that the lines of events begin as: spaces, a balance in its columns, and a line feed. The balance seldom moves from one
+// event to the next, so it is seldom put there anew.
+#[derive(Clone, Copy)]
+pub(crate) struct Form {
+    balance: i64,
+    line: [u8; 50],
+    ghost filled: { Filled line 33 (signed_columns balance ++ (10 ∷ [])) },
+}
+
+impl Form {
+    // The form of a balance.
+    fn of(balance: i64) -> Form
+        requires { length (signed_columns balance) ≡ 16 }
+        ensures { result.balance ≡ balance }
+    {
+        let mut line = *BLANK;
+        put_balance(&mut line, 49, balance);
+        Form { balance, line }
+    }
+
+    // The form of a balance of 0.
+    #[tactic(auto, using(crate::proofs::Filling::zero_room))]
+    pub(crate) fn new() -> Form {
+        Form::of(0)
+    }
+
+    // Puts a balance on the form, if it has room in its columns; answers whether it has.
+    #[tactic(auto, using(crate::proofs::Filling::balance_room))]
+    fn bears(&mut self, balance: i64) -> bool
+        ensures { result ≡ true → self.new.balance ≡ balance }
+    {
+        if self.balance == balance {
+            return true;
+        }
+        let fits = has_room(balance.is_negative(), balance.unsigned_abs());
+        if fits {
+            *self = Form::of(balance);
+        }
+        fits
+    }
+}
+
 // What an event is answered with: the number of its order, 0 where it has none, or its refusal; and the balance after it.
 #[derive(Clone, Copy)]
 pub(crate) struct EventAnswer {
@@ -53,52 +95,52 @@ impl EventAnswer {
         }
     }
 
-    // Fills a line that has its line feed alone, and spaces before it; answers where what it writes begins.
-    fn fill(&self, line: &mut [u8]) -> usize
-        requires room { length (event_line self.now.letter self.now.shows self.now.balance) ≤ length line.old }
-        requires blank { Filled line.old (length line.old - 1) (10 ∷ []) }
-        ensures filled { Filled line.new result (event_line self.now.letter self.now.shows self.now.balance) }
+    // Whether the refusal's number and the order's have room in their columns.
+    fn is_narrow(&self) -> bool
+        ensures refusal { result ≡ true → length (in_columns 16 (refusal_shown self.now.shows)) ≡ 16 }
+        ensures order { result ≡ true → length (in_columns 16 (order_shown self.now.shows)) ≡ 16 }
+        ensures most { length (in_columns 16 (refusal_shown self.now.shows)) + length (in_columns 16 (order_shown self.now.shows)) ≤ 42 }
+    {
+        let (refusal, order) = self.numbers();
+        has_room(false, refusal) & has_room(false, order)
+    }
+
+    // Puts what stands before the balance; answers where the line begins.
+    fn put(&self, line: &mut [u8], end: usize) -> usize
+        requires room { 1 + length (in_columns 16 (refusal_shown self.now.shows)) + length (in_columns 16 (order_shown self.now.shows)) ≤ end }
+        requires within { end ≤ length line.old }
+        ensures filled { Filled line.old end (signed_columns self.now.balance ++ (10 ∷ [])) → Filled line.new result (event_line self.now.letter self.now.shows self.now.balance) }
+        ensures begins { result + (1 + length (in_columns 16 (refusal_shown self.now.shows)) + length (in_columns 16 (order_shown self.now.shows))) ≡ end }
         ensures size { length line.new ≡ length line.old }
     {
         let (refusal, order) = self.numbers();
-        let end = put_balance(line, line.len() - 1, self.balance);
         let end = put(line, end, order);
         let end = put(line, end, refusal);
         put_byte(line, end, self.letter.byte())
     }
 
-    // Whether each number has room in its columns; wide or not, a line has a bound.
-    fn is_narrow(&self) -> bool
-        ensures narrow { result ≡ true → length (event_line self.now.letter self.now.shows self.now.balance) ≡ 50 }
-        ensures most { length (event_line self.now.letter self.now.shows self.now.balance) ≤ 128 }
-    {
-        let (refusal, order) = self.numbers();
-        let below = self.balance.is_negative();
-        let magnitude = self.balance.unsigned_abs();
-        has_room(false, refusal) & has_room(false, order) & has_room(below, magnitude)
-    }
-
-    // Writes the event's line behind a text, in its place where each number has room in its columns.
-    pub(crate) fn write(&self, out: &mut Vec<u8>) -> Result<(), AllocError>
+    // Writes the event's line behind a text, on a form where each number has room in its columns.
+    pub(crate) fn write(&self, form: &mut Form, out: &mut Vec<u8>) -> Result<(), AllocError>
         ensures { OnOk result (out.new.items ≡ out.old.items ++ event_line self.now.letter self.now.shows self.now.balance) }
     {
-        if !self.is_narrow() {
+        if !self.is_narrow() || !form.bears(self.balance) {
             return self.write_wide(out);
         }
         let from = out.len();
-        out.extend_from_slice(BLANK)?;
-        self.fill(&mut out[from..]);
+        out.extend_from_slice(&form.line)?;
+        self.put(&mut out[from..], 33);
         Ok(())
     }
 
     // Writes the event's line, however wide, behind a text.
     #[cold]
     fn write_wide(&self, out: &mut Vec<u8>) -> Result<(), AllocError>
-        requires { length (event_line self.now.letter self.now.shows self.now.balance) ≤ 128 }
+        requires { length (in_columns 16 (refusal_shown self.now.shows)) + length (in_columns 16 (order_shown self.now.shows)) ≤ 42 }
         ensures { OnOk result (out.new.items ≡ out.old.items ++ event_line self.now.letter self.now.shows self.now.balance) }
     {
         let mut line = wide_line();
-        let from = self.fill(&mut line);
+        let end = put_balance(&mut line, 127, self.balance);
+        let from = self.put(&mut line, end);
         out.extend_from_slice(&line[from..])
     }
 }

@@ -7,7 +7,7 @@ ghost use Rattle.desk.specs.Printed.{Appends};
 ghost use Rattle.desk.specs.declared.event.Event.TheVariants as event;
 
 use super::event::{Event, Link};
-use super::printing::{EventAnswer, Fault};
+use super::printing::{EventAnswer, Fault, Form};
 use super::reading::read_event;
 use fields::rest::Rest;
 use gate::day::TradingDay;
@@ -126,8 +126,13 @@ impl<P: Register, A: Register> Session<'_, '_, P, A> {
         }
     }
 
-    // Does an event's work and writes its line; answers whether the day closes.
-    fn respond(&mut self, event: Event, out: &mut Vec<u8>) -> Result<bool, AllocError>
+    // Does an event's work and writes its line, on a form where it has room; answers whether the day closes.
+    fn respond(
+        &mut self,
+        event: Event,
+        form: &mut Form,
+        out: &mut Vec<u8>,
+    ) -> Result<bool, AllocError>
         ensures after { session_of P.Register.meaning A.Register.meaning self.new ≡ after_event (session_of P.Register.meaning A.Register.meaning self.old) event }
         ensures wrote { OnOk result (out.new.items ≡ out.old.items ++ event_answer (session_of P.Register.meaning A.Register.meaning self.old) event) }
         ensures closing { IfOk result (λ b. b ≡ closes (session_of P.Register.meaning A.Register.meaning self.old) event) }
@@ -138,7 +143,7 @@ impl<P: Register, A: Register> Session<'_, '_, P, A> {
             shows,
             balance: self.balance(),
         };
-        answer.write(out)?;
+        answer.write(form, out)?;
         Ok(event.has_closed(shows))
     }
 
@@ -152,10 +157,11 @@ impl<P: Register, A: Register> Session<'_, '_, P, A> {
         ensures answered { IfOk result (λ late. Appends out.old.items out.new.items (λ text. Stopped (session_of P.Register.meaning A.Register.meaning self.old) events.entry.line events.entry.bytes.now text (session_of P.Register.meaning A.Register.meaning self.new).desk late)) }
     {
         let mut rest = events;
+        let mut form = Form::new();
         'events: while !rest.bytes.is_empty() {
             match read_event(&rest) {
                 Ok(event) => {
-                    let closing = self.respond(event, out)?;
+                    let closing = self.respond(event, &mut form, out)?;
                     rest.pass(event.letter());
                     if closing {
                         return Ok(Some(rest));
