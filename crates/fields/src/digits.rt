@@ -1,9 +1,8 @@
-ghost use Rattle.std.specs.Prelude.{◌≡◌, ℕ, ◌+◌, ◌≤◌, ◌<◌, ◌==◌, ◌≢◌, List, drop, min, true, MatchResult, slice_index};
+ghost use Rattle.std.specs.Prelude.{◌≡◌, ℕ, ◌+◌, ◌<◌, ◌≢◌, List, drop, true, MatchResult, slice_index};
 ghost use lib.Lanes.{number_l};
-ghost use Rattle.std.specs.List.{count_by, prefix_len};
+ghost use Rattle.std.specs.List.{count_by};
 ghost use Rattle.core.specs.Char.{is_ascii_digit};
 ghost use Rattle.core.specs.Dec2flt.Digits.{IsEightDigits};
-ghost use Rattle.core.specs.Float.Numeral.{digits_len};
 ghost use Rattle.core.specs.Int.Digits.{number_from_digits};
 ghost use Rattle.core.specs.Str.Parse.{digits_value};
 ghost use Rattle.fields.specs.Scan.{digits_behind, scan, spaces};

@@ -4,7 +4,6 @@ use mathlib.Core.Bool.{and-true}
 use Rattle.std.proofs.lemmas.Bool.{and_parts, and_right, cases_eq}
 use Rattle.std.proofs.lemmas.List.{at_drop_more, at_drop_all, get_or-map, length-map, map_push}
 use Rattle.std.specs.Ordering.{is_lt}
-use Rattle.std.specs.List.Sorted.{IsPartitionedBy, IsPartitionPoint}
 use Rattle.lookup.specs.Orders.{TotalOrder}
 use Rattle.lookup.specs.Lookup.{seek, is_before, is_at, is_above, rise_from, rise, Rising}
 
@@ -69,13 +68,6 @@ module _ {K : Type 0} (order : K → K → Ordering) (total : TotalOrder order) 
         (λ (e : j ≡ m → ⊥). ap is_lt (total.through q.0 p.0 key (up_from None ks h j m q.0 p.0 (omega (arith, e)) q.1 p.1) less))
         (cases_eq j m)
 
-    -- rows that rise are parted by whether they are before the key
-    pub parted : {X : Type 0} (named : X → Option K) (rows : List X) → rise order named rows ≡ true → IsPartitionedBy (λ x. is_before order key (named x)) rows
-    parted named rows up i j d h l t =
-        let at = λ (n : ℕ) (m : n < length rows). get_or-map named rows n d None m in
-        sym (ap (is_before order key) (at i (omega (arith, h, l))))
-        ∙ all_before (map named rows) j up (omega (arith, l, length-map rows named)) (ap (is_before order key) (at j l) ∙ t) i (omega (arith, h))
-
     step : (s : ℕ) (o : Option K) (ks : List (Option K)) → is_before order key o ≡ true → seek order s (o ∷ ks) key ≡ seek order (s + 1) ks key
     step s o ks b = grind arith
 
@@ -89,14 +81,6 @@ module _ {K : Type 0} (order : K → K → Ordering) (total : TotalOrder order) 
 
     abbrev Cut : List (Option K) → ℕ → Type 0
     Cut ks i = (j : ℕ) → j < i → is_before order key (get_or ks j None) ≡ true
-
-    -- the keys of the rows on both sides of the place that parts them
-    pub parts : {X : Type 0} (named : X → Option K) (rows : List X) (i : ℕ) → i ≤ length rows → IsPartitionPoint (λ x. is_before order key (named x) ≡ true) (λ x. is_before order key (named x) ≡ false) rows i → Cut (map named rows) i × (i < length rows → is_before order key (get_or (map named rows) i None) ≡ false)
-    parts named [] i l p = (λ j h. absurd (omega (arith, h, l)), λ h. absurd (omega (arith, h)))
-    parts named (y ∷ ys) i l p = (
-      λ j h. ap (is_before order key) (get_or-map named (y ∷ ys) j y None (omega (arith, h, l))) ∙ p.0 j y (omega arith) h,
-      λ h. ap (is_before order key) (get_or-map named (y ∷ ys) i y None h) ∙ p.1 i y (omega arith) h,
-    )
 
     cut : (ks : List (Option K)) (i : ℕ) → i ≤ length ks → Cut ks i → seek order 0 ks key ≡ seek order i (drop i ks) key
     cut ks i l b = skip 0 i ks l b ∙ ap (λ n. seek order n (drop i ks) key) (omega arith)
@@ -144,12 +128,6 @@ module _ {X K : Type 0} (order : K → K → Ordering) (named : X → Option K) 
   -- the row read at a place, by the key that it is presumed to have
   pub presumed_at : (rows : List X) (i : ℕ) (x : X) → rise order named rows ≡ true → i < length rows → x ≡ get_or rows i x → bare x ≡ get_or (map named rows) i None
   presumed_at rows i x up l e = row_at bare rows i x l e ∙ ap (λ ks. get_or ks i None) (sym (presumed_keys rows up))
-
-  -- what halving by the presumed keys finds of the keys
-  pub halved : (total : TotalOrder order) (key : K) (rows : List X) (i : ℕ) → i ≤ length rows → (IsPartitionedBy (λ x. is_before order key (bare x)) rows → IsPartitionPoint (λ x. is_before order key (bare x) ≡ true) (λ x. is_before order key (bare x) ≡ false) rows i) → rise order named rows ≡ true → ((j : ℕ) → j < i → is_before order key (get_or (map named rows) j None) ≡ true) × (i < length rows → is_before order key (get_or (map named rows) i None) ≡ false)
-  halved total key rows i l p up =
-      let same = presumed_keys rows up in
-      rw same (parts order total key bare rows i l (p (parted order total key bare rows (ap (rise_from order None) (sym same) ∙ up))))
 
 -- one more row behind those of a table
 at_last : {K : Type 0} (ks : List (Option K)) → 0 < length ks → get_or (None ∷ ks) (length ks) None ≡ get_or ks (length ks - 1) None

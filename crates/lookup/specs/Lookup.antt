@@ -1,5 +1,5 @@
 -- Looking a key up among the keys of a table's rows, where an absent row has none.
-use Rattle.std.specs.Prelude.{◌≡◌, ℕ, ◌+◌, ◌<◌, Bool, true, false, ◌&&◌, List, [], ◌∷◌, map, length, Some, None, Option, ◌==◌, slice_index_or}
+use Rattle.std.specs.Prelude.{◌≡◌, ℕ, ◌+◌, ◌<◌, ◌≤◌, Bool, true, false, ◌&&◌, List, [], ◌∷◌, map, length, Some, None, Option, ◌==◌, slice_index_or}
 use Rattle.std.specs.declared.cmp.Ordering.TheVariants.{Less, Equal, Greater}
 use Rattle.std.specs.declared.cmp.Ordering.{Ordering}
 use Rattle.lookup.specs.declared.key.Pair.{Pair}
@@ -30,6 +30,15 @@ is_before order sought (Some k) = is_lt (order k sought)
 -- The row at a place is present and before the key.
 abbrev pub before_at : {K : Type 0} → (K → K → Ordering) → K → List (Option K) → ℕ → Bool
 before_at order sought ks i = is_before order sought (slice_index_or ks i None)
+
+-- The place parts the rows by the key: the rows in front of it are before the key, and the one there is not.
+abbrev pub Parted : {K : Type 0} → (K → K → Ordering) → K → List (Option K) → ℕ → Type 0
+Parted order sought ks i = ((j : ℕ) → j < i → before_at order sought ks j ≡ true) × (i < length ks → before_at order sought ks i ≡ false)
+
+-- The place that parts the rows is among so many from one place on: those in front of them are before the key, and those behind
+-- them are not.
+abbrev pub PartedAmong : {K : Type 0} → (K → K → Ordering) → K → List (Option K) → ℕ → ℕ → Type 0
+PartedAmong order sought ks from size = ((j : ℕ) → j < from → before_at order sought ks j ≡ true) × ((j : ℕ) → from + size ≤ j → j < length ks → before_at order sought ks j ≡ false)
 
 -- The row is present and has the key.
 abbrev pub is_at : {K : Type 0} → (K → K → Ordering) → K → Option K → Bool

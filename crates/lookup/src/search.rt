@@ -1,7 +1,8 @@
-ghost use Rattle.std.specs.Prelude.{◌≡◌, ℕ, ◌+◌, ◌*◌, ◌<◌, ◌≤◌, true, false, [], ◌∷◌, ◌++◌, map, length, None, slice_index_or};
+ghost use Rattle.std.specs.Prelude.{◌≡◌, ◌≤◌, length, true, [], ◌∷◌, ◌++◌, map};
 ghost use Rattle.lookup.specs.Orders.{pair_order};
-ghost use Rattle.lookup.specs.Lookup.{seek, Found, is_before, before_at, is_at, is_above, rise, Rising, is_of, some_of};
+ghost use Rattle.lookup.specs.Lookup.{seek, Found, Parted, is_at, is_above, rise, Rising, is_of, some_of};
 
+use super::halving::{before, both_before};
 use super::key::{Key, Pair, Row};
 use std::cmp::Ordering;
 
@@ -22,13 +23,6 @@ pub fn find<R: Row>(rows: &[R], key: &R::Key) -> Option<usize>
     None
 }
 
-// Whether a row that is present is before the key.
-fn is_before<R: Row>(row: &R, key: &R::Key) -> bool
-    ensures { result ≡ is_before R.Key.cmp key.now (Some (R.presumed row.now)) }
-{
-    row.presumed_key().precedes(*key)
-}
-
 // Whether a row that is present has the key.
 fn is_at<R: Row>(row: &R, key: &R::Key) -> bool
     ensures { result ≡ is_at R.Key.cmp key.now (Some (R.presumed row.now)) }
@@ -36,57 +30,20 @@ fn is_at<R: Row>(row: &R, key: &R::Key) -> bool
     row.presumed_key().cmp(key).is_eq()
 }
 
-// How many of three rows are before the key, which stand a quarter apart: where rows rise, these are the first so many. All three
-// are compared whatever one of them says, so that there is no branch for the processor to guess, and none waits for another.
-fn quarters_before<R: Row>(rows: &[R], from: usize, quarter: usize, key: &R::Key) -> usize
-    requires { from + 3 * quarter < length rows.now }
-    ensures most { result ≤ 3 }
-    ensures below { rise R.Key.cmp R.named rows.now ≡ true → 0 < result → before_at R.Key.cmp key.now (map R.named rows.now) (from + result * quarter) ≡ true }
-    ensures at { rise R.Key.cmp R.named rows.now ≡ true → result < 3 → before_at R.Key.cmp key.now (map R.named rows.now) (from + (result + 1) * quarter) ≡ false }
+// The place that parts rows that rise, if the row there has the key.
+fn found<R: Row>(rows: &[R], parting: usize, key: &R::Key) -> Option<usize>
+    requires { parting ≤ length rows.now }
+    ensures { rise R.Key.cmp R.named rows.now ≡ true → Parted R.Key.cmp key.now (map R.named rows.now) parting → result ≡ seek R.Key.cmp 0 (map R.named rows.now) key.now }
 {
-    let first = is_before(&rows[from + quarter], key);
-    let second = is_before(&rows[from + 2 * quarter], key);
-    let third = is_before(&rows[from + 3 * quarter], key);
-    usize::from(first) + usize::from(second) + usize::from(third)
-}
-
-// The place that parts rows that rise, where it is known to be one of a few: each of these rows that is before the key moves it on.
-fn parted_among<R: Row>(rows: &[R], from: usize, size: usize, key: &R::Key) -> usize
-    requires { from + size ≤ length rows.now }
-    ensures within { result ≤ length rows.now }
-    ensures below { rise R.Key.cmp R.named rows.now ≡ true → ((j : ℕ) → j < from → before_at R.Key.cmp key.now (map R.named rows.now) j ≡ true) → (j : ℕ) → j < result → before_at R.Key.cmp key.now (map R.named rows.now) j ≡ true }
-    ensures at { rise R.Key.cmp R.named rows.now ≡ true → ((j : ℕ) → from + size ≤ j → j < length rows.now → before_at R.Key.cmp key.now (map R.named rows.now) j ≡ false) → result < length rows.now → before_at R.Key.cmp key.now (map R.named rows.now) result ≡ false }
-{
-    let mut parting = from;
-    for place in from..from + size {
-        parting += usize::from(is_before(&rows[place], key));
-    }
-    parting
-}
-
-// A place that parts rows that rise: the rows before it are before the key, and the row there is not. It halves twice at a time.
-fn before<R: Row>(rows: &[R], key: &R::Key) -> usize
-    ensures within { result ≤ length rows.now }
-    ensures below { rise R.Key.cmp R.named rows.now ≡ true → (j : ℕ) → j < result → before_at R.Key.cmp key.now (map R.named rows.now) j ≡ true }
-    ensures at { rise R.Key.cmp R.named rows.now ≡ true → result < length rows.now → before_at R.Key.cmp key.now (map R.named rows.now) result ≡ false }
-{
-    let mut from = 0;
-    let mut size = rows.len();
-    'quarters: while size > 3 {
-        let quarter = size / 4;
-        from += quarter * quarters_before(rows, from, quarter, key);
-        size -= 3 * quarter;
-    }
-    parted_among(rows, from, size, key)
+    let row = rows.get(parting)?;
+    if is_at(row, key) { Some(parting) } else { None }
 }
 
 // What `find` finds where the rows rise, by halving.
 fn find_rising<R: Row>(rows: &[R], key: &R::Key) -> Option<usize>
     ensures { rise R.Key.cmp R.named rows.now ≡ true → result ≡ seek R.Key.cmp 0 (map R.named rows.now) key.now }
 {
-    let i = before(rows, key);
-    let row = rows.get(i)?;
-    if is_at(row, key) { Some(i) } else { None }
+    found(rows, before(rows, key), key)
 }
 
 // Whether a key is above the last one, if there is a last one.
@@ -202,4 +159,27 @@ impl<R: Row<Key = Pair>> Lines<'_, R> {
             holds_walk(self.rows, first)
         }
     }
+}
+
+// The places of two keys, each among lines of its own. Where both rise, the one search goes on beside the other, and neither waits
+// for the rows that the other asks for.
+pub fn places<R: Row, S: Row>(
+    lines: &Lines<R>,
+    key: &R::Key,
+    others: &Lines<S>,
+    other: &S::Key,
+) -> (Option<usize>, Option<usize>)
+    ensures first { result.0 ≡ seek R.Key.cmp 0 (map R.named lines.now.rows.now) key.now }
+    ensures first_means { Found R.Key.cmp (map R.named lines.now.rows.now) key.now result.0 }
+    ensures second { result.1 ≡ seek S.Key.cmp 0 (map S.named others.now.rows.now) other.now }
+    ensures second_means { Found S.Key.cmp (map S.named others.now.rows.now) other.now result.1 }
+{
+    if !lines.rising || !others.rising {
+        return (lines.place(key), others.place(other));
+    }
+    let (first, second) = both_before(lines.rows, key, others.rows, other);
+    (
+        found(lines.rows, first, key),
+        found(others.rows, second, other),
+    )
 }

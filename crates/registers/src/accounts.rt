@@ -45,14 +45,15 @@ impl Finding<Account> for Designated<'_, '_> {
             first: account,
             second: participant,
         };
-        // A designation is itself a line of the account: only where it is not there is the account looked for.
-        if self.designations.place(&named).is_none() {
-            return Err(self.refusal(holdings, account));
-        }
         let key = Pair {
             first: account,
             second: code,
         };
-        holdings.place(&key).ok_or(Refusal::NoPosition)
+        let (designation, holding) = self.designations.places(&named, holdings, &key);
+        // A designation is itself a line of the account: only where it is not there is the account looked for.
+        if designation.is_none() {
+            return Err(self.refusal(holdings, account));
+        }
+        holding.ok_or(Refusal::NoPosition)
     }
 }

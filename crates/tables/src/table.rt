@@ -8,7 +8,7 @@ ghost use Rattle.tables.specs.Rows.{may_sell, no_security, noticed, with_sellabl
 use super::owner::Owner;
 use super::rows::{AccountHolding, Designation, Holding, ParticipantHolding, Security};
 use lookup::key::{Pair, Row};
-use lookup::search::{Lines, rises, rises_with};
+use lookup::search::{Lines, places, rises, rises_with};
 use rules::notice::NoticeBand;
 use rules::refusal::Refusal;
 use std::marker::Model;
@@ -72,6 +72,21 @@ impl<R: Row> Table<'_, R> {
         ensures means { Found R.Key.cmp (map R.named (lines_of self.now)) key.now result }
     {
         self.lines().place(key)
+    }
+
+    // The places of the lines of two keys, one in this table and one in another.
+    pub fn places<S: Row>(
+        &self,
+        key: &R::Key,
+        table: &Table<'_, S>,
+        other: &S::Key,
+    ) -> (Option<usize>, Option<usize>)
+        ensures first { result.0 ≡ seek R.Key.cmp 0 (map R.named (lines_of self.now)) key.now }
+        ensures first_means { Found R.Key.cmp (map R.named (lines_of self.now)) key.now result.0 }
+        ensures second { result.1 ≡ seek S.Key.cmp 0 (map S.named (lines_of table.now)) other.now }
+        ensures second_means { Found S.Key.cmp (map S.named (lines_of table.now)) other.now result.1 }
+    {
+        places(&self.lines(), key, &table.lines(), other)
     }
 
     // Whether the lines rise with one more behind them.

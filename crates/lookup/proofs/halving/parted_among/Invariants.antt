@@ -1,7 +1,7 @@
 use Rattle.std.proofs.Common.{◌≡◌, ◌≤◌, map, true}
 use Rattle.lookup.specs.Lookup.{rise}
 use Rattle.lookup.proofs.Parting.{Among}
-use Rattle.lookup.proofs.search.parted_among.Given as goal
+use Rattle.lookup.proofs.halving.parted_among.Given as goal
 
 abbrev pub invariant-loop-place : goal.invariant-loop-place
 invariant-loop-place g l =

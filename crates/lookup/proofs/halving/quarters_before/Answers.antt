@@ -2,7 +2,7 @@ use Rattle.std.proofs.Common.{◌≡◌, ℕ, ◌+◌, ◌*◌, map, arith, true
 use Rattle.std.proofs.lemmas.List.{length-map}
 use Rattle.lookup.specs.Lookup.{rise}
 use Rattle.lookup.proofs.Parting.{counted, told}
-use Rattle.lookup.proofs.search.quarters_before.Goals as goal
+use Rattle.lookup.proofs.halving.quarters_before.Goals as goal
 
 pub returns : goal.returns
 returns g c =
