@@ -1,5 +1,5 @@
 -- The answer to a day that is loaded, and to one that is refused.
-use Rattle.std.proofs.Common.{◌≡◌, ℕ, true, List, [], ◌++◌, length, Some, None, Ok, Err, Option, Result, IfOk, OnOk, sym, refl, ap, ◌∙◌, subst, append_assoc, append-nil, rules}
+use Rattle.std.proofs.Common.{◌≡◌, ℕ, true, List, [], ◌++◌, length, Some, None, Ok, Err, Option, Result, IfOk, OnOk, sym, refl, ap, ◌∙◌, subst, append-nil, rules}
 use Rattle.rules.specs.declared.letter.Part.TheVariants as part
 use Rattle.rules.specs.declared.refusal.Refusal.{Refusal}
 use Rattle.rules.specs.Rules.{first_broken}
@@ -31,7 +31,8 @@ use Rattle.desk.specs.declared.event.Event.TheVariants as event
 use Rattle.desk.specs.Answered.{Answered, Ended, EndsDay, Reaches, Stopped, closing, late_answer, next}
 use Rattle.desk.specs.Effects.{Session, closes, effect, is_accepted, session, unless}
 use Rattle.desk.specs.Output.{DayAnswer, answered, desk_over, morning, refused}
-use Rattle.desk.specs.Printed.{Appends, shown_fault}
+use Rattle.desk.specs.Printed.{Appends, Paper, shown_fault}
+use Rattle.desk.specs.Covering.{bytes_of, grown}
 
 -- an accepted close is one that no rule forbids
 allowed : (o : Option Refusal) → is_accepted (unless o 0) ≡ true → o ≡ None
@@ -60,24 +61,30 @@ never None e q r = cc
 never (Some x) e q r = cc
 
 -- what is answered up to an accepted close or the end, and then what is printed last
-pub ended : (s : Session) (nr : ℕ) (rest : List ℕ) (last : Desk) (closing : Option Rest) (closed : Option Figures) (before out after : List ℕ) → Reaches s.desk last → Appends before out (λ text. Stopped s nr rest text last closing)
-    → after ≡ out ++ late_answer closing → EndsDay closing last.figures last.book closed → Appends before after (Ended s nr rest closed)
-ended s nr rest last None closed before out after reaches made wrote ends = (
-  made.0,
-  rw append-nil at wrote ∙ made.1,
-  rw ends (record { last = last; answers = made.2; reaches = reaches; ends = tt }),
-)
-ended s nr rest last (Some late) (Some closed) before out after reaches made wrote ends = (
-  made.0 ++ late_answer (Some late),
-  wrote ∙ ap (λ (t : List ℕ). t ++ late_answer (Some late)) made.1 ∙ append_assoc before made.0 (late_answer (Some late)),
-  record { last = last; answers = rw ends.figures made.2; reaches = reaches; ends = ends },
-)
-ended s nr rest last (Some late) None before out after reaches made wrote ends = absurd (never _ ends.0 (closed_well made.2) ends.1)
+module _ {O : Type 0} (view : O → Paper) (after : O → List ℕ → Paper) (together : (x y z : O) (a b : List ℕ) → view y ≡ after x a → view z ≡ after y b → view z ≡ after x (a ++ b)) where
+  pub ended : (s : Session) (nr : ℕ) (rest : List ℕ) (last : Desk) (closing : Option Rest) (closed : Option Figures) (from out to : O) → Reaches s.desk last → Appends view after from out (λ text. Stopped s nr rest text last closing)
+      → view to ≡ after out (late_answer closing) → EndsDay closing last.figures last.book closed → Appends view after from to (Ended s nr rest closed)
+  ended s nr rest last None closed from out to reaches made wrote ends = (
+    made.0,
+    rw append-nil at (together from out to made.0 [] made.1 wrote),
+    rw ends (record { last = last; answers = made.2; reaches = reaches; ends = tt }),
+  )
+  ended s nr rest last (Some late) (Some closed) from out to reaches made wrote ends = (
+    made.0 ++ late_answer (Some late),
+    together from out to made.0 (late_answer (Some late)) made.1 wrote,
+    record { last = last; answers = rw ends.figures made.2; reaches = reaches; ends = ends },
+  )
+  ended s nr rest last (Some late) None from out to reaches made wrote ends = absurd (never _ ends.0 (closed_well made.2) ends.1)
 
 -- what follows from two facts of an answer
 pub of_both : {X E : Type 0} (r : Result X E) (T : Type 0) (P Q : X → Type 0) → ((x : X) → T → P x → Q x) → OnOk r T → IfOk r P → IfOk r Q
 of_both (Ok x) T P Q f t p = f x t p
 of_both (Err e) T P Q f t p = tt
+
+-- what is said of an answer that is there
+pub of_ok : {X E : Type 0} (r : Result X E) (x : X) (P : X → Type 0) → r ≡ Ok x → IfOk r P → P x
+of_ok (Ok y) x P e p = let same : y ≡ x = cc in subst P same p
+of_ok (Err y) x P e p = cc
 
 same_plan : (r : Result Plan LineFault) (a b : Plan) → r ≡ Ok a → r ≡ Ok b → a ≡ b
 same_plan r a b p q = cc
@@ -141,5 +148,5 @@ day_refused input before after day fault orders load =
     subst (λ (x : DayFault). DayAnswer input (room_of before) orders None (shown_fault x)) f.2 (refused f.0 f.1)
 
 -- what is written where nothing was
-pub from_nothing : (P : List ℕ → Type 0) (before after : List ℕ) → before ≡ [] → Appends before after P → P after
-from_nothing P before after e made = subst P (sym (made.1 ∙ ap (λ (t : List ℕ). t ++ made.0) e)) made.2
+pub from_nothing : (P : List ℕ → Type 0) (before after : List ℕ) → before ≡ [] → Appends bytes_of grown before after P → P after
+from_nothing P before after e made = subst P (sym (ap (λ (p : Paper). p.bytes) made.1 ∙ ap (λ (t : List ℕ). t ++ made.0) e)) made.2

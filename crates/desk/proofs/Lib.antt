@@ -3,3 +3,4 @@ pub mod Lines
 pub mod Turns
 pub mod Reached
 pub mod Days
+mod Places

@@ -13,7 +13,7 @@ use Rattle.desk.specs.declared.event.Event.{Event}
 use Rattle.desk.specs.Answered.{Answered, after_close, closing, event_answer, faulty, next, over}
 use Rattle.desk.specs.Effects.{Session, after_event, closes}
 use Rattle.desk.specs.Events.{event_letter, event_of}
-use Rattle.desk.specs.Printed.{Appends, shown_fault}
+use Rattle.desk.specs.Printed.{Appends, Paper, shown_fault}
 
 -- the event, or the fault, behind the letter, the line and the part
 event_ok : (r : Result Event FieldFault) (b nr : ℕ) (e : Event) → Ok e ≡ day_at part.Event (line_at b nr r) → r ≡ Ok e
@@ -32,10 +32,6 @@ counted_on l e bytes nr nr' same long n = n ∙ ap (λ b. cond b (nr + 1) nr) (a
 abbrev pub Goes : Session → ℕ → List ℕ → List ℕ → Session → ℕ → List ℕ → Type 0
 Goes s₀ nr₀ rest₀ text s nr rest = (more : List ℕ) (last : Desk) (closed : Option Figures) → Answered s nr rest more last closed → Answered s₀ nr₀ rest₀ (text ++ more) last closed
 
--- what is written behind a text that was written behind another
-behind : (before out after : List ℕ) (text more : List ℕ) → out ≡ before ++ text → after ≡ out ++ more → after ≡ before ++ (text ++ more)
-behind before out after text more first then = search (rules, first, then, append_assoc)
-
 some_left : (rest : List ℕ) → false ≡ eqb (length rest) 0 → 0 < length rest
 some_left [] e = grind arith
 some_left (b ∷ bs) e = omega arith
@@ -44,31 +40,32 @@ none_left : (rest : List ℕ) → true ≡ eqb (length rest) 0 → rest ≡ []
 none_left [] e = refl
 none_left (b ∷ bs) e = grind arith
 
-module _ (s₀ : Session) (nr₀ : ℕ) (rest₀ : List ℕ) (s : Session) (nr : ℕ) (rest : List ℕ) (before out : List ℕ) (so_far : Appends before out (λ text. Goes s₀ nr₀ rest₀ text s nr rest)) where
-  module _ (e : Event) (s' : Session) (nr' : ℕ) (rest' : List ℕ) (after : List ℕ) (q : Ok e ≡ day_at part.Event (line_at (get_or rest 0 0) nr (event_of rest))) (a : s' ≡ after_event s e) (n : nr' ≡ nr + 1) (r : rest' ≡ drop (width_of (event_letter e)) rest)
-      (wrote : after ≡ out ++ event_answer s e) where
-    pub one_more : closes s e ≡ false → Appends before after (λ text. Goes s₀ nr₀ rest₀ text s' nr' rest')
+module _ {O : Type 0} (view : O → Paper) (after : O → List ℕ → Paper) (together : (x y z : O) (a b : List ℕ) → view y ≡ after x a → view z ≡ after y b → view z ≡ after x (a ++ b))
+    (s₀ : Session) (nr₀ : ℕ) (rest₀ : List ℕ) (s : Session) (nr : ℕ) (rest : List ℕ) (from out : O) (so_far : Appends view after from out (λ text. Goes s₀ nr₀ rest₀ text s nr rest)) where
+  module _ (e : Event) (s' : Session) (nr' : ℕ) (rest' : List ℕ) (to : O) (q : Ok e ≡ day_at part.Event (line_at (get_or rest 0 0) nr (event_of rest))) (a : s' ≡ after_event s e) (n : nr' ≡ nr + 1) (r : rest' ≡ drop (width_of (event_letter e)) rest)
+      (wrote : view to ≡ after out (event_answer s e)) where
+    pub one_more : closes s e ≡ false → Appends view after from to (λ text. Goes s₀ nr₀ rest₀ text s' nr' rest')
     one_more stays = (
       so_far.0 ++ event_answer s e,
-      behind before out after so_far.0 (event_answer s e) so_far.1 wrote,
+      together from out to so_far.0 (event_answer s e) so_far.1 wrote,
       λ more last closed answered. rw (append_assoc so_far.0 (event_answer s e) more) (so_far.2 _ last closed (next rest e more last closed (event_ok _ _ nr e q) stays (rw (a, n, r) at answered))),
     )
 
-    pub at_close : closes s e ≡ true → Appends before after (λ text. Answered s₀ nr₀ rest₀ (text ++ after_close nr' rest') s'.desk (Some s'.desk.figures))
+    pub at_close : closes s e ≡ true → Appends view after from to (λ text. Answered s₀ nr₀ rest₀ (text ++ after_close nr' rest') s'.desk (Some s'.desk.figures))
     at_close shuts = (
       so_far.0 ++ event_answer s e,
-      behind before out after so_far.0 (event_answer s e) so_far.1 wrote,
+      together from out to so_far.0 (event_answer s e) so_far.1 wrote,
       rw (append_assoc so_far.0 (event_answer s e) (after_close nr' rest'), a, n, r) (so_far.2 _ _ _ (closing rest e (event_ok _ _ nr e q) shuts)),
     )
 
-  pub at_fault : (fault : DayFault) (after : List ℕ) → false ≡ eqb (length rest) 0 → Err fault ≡ day_at part.Event (line_at (get_or rest 0 0) nr (event_of rest))
-      → after ≡ out ++ shown_fault fault → Appends before after (λ text. Answered s₀ nr₀ rest₀ text s.desk None)
-  at_fault fault after some q wrote =
+  pub at_fault : (fault : DayFault) (to : O) → false ≡ eqb (length rest) 0 → Err fault ≡ day_at part.Event (line_at (get_or rest 0 0) nr (event_of rest))
+      → view to ≡ after out (shown_fault fault) → Appends view after from to (λ text. Answered s₀ nr₀ rest₀ text s.desk None)
+  at_fault fault to some q wrote =
       let f = event_err (event_of rest) (get_or rest 0 0) nr fault q in (
         so_far.0 ++ shown_fault fault,
-        behind before out after so_far.0 (shown_fault fault) so_far.1 wrote,
+        together from out to so_far.0 (shown_fault fault) so_far.1 wrote,
         rw f.2 (so_far.2 _ s.desk None (faulty rest f.0 (some_left rest some) f.1)),
       )
 
-  pub at_end : true ≡ eqb (length rest) 0 → Appends before out (λ text. Answered s₀ nr₀ rest₀ text s.desk None)
+  pub at_end : true ≡ eqb (length rest) 0 → Appends view after from out (λ text. Answered s₀ nr₀ rest₀ text s.desk None)
   at_end e = (so_far.0, so_far.1, rw append-nil at (so_far.2 [] s.desk None (rw (none_left rest e) over)))

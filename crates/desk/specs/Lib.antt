@@ -1,4 +1,5 @@
 pub mod Printed
+pub mod Covering
 pub mod Events
 pub mod Effects
 pub mod Answered

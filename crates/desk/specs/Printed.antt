@@ -1,5 +1,5 @@
 -- The lines that are printed, in the input's own layout.
-use Rattle.std.specs.Prelude.{◌≡◌, ℕ, Bool, true, false, List, [], ◌∷◌, ◌++◌, replicate, decimal, ℤ, Ok, Err, Result}
+use Rattle.std.specs.Prelude.{◌≡◌, ℕ, zero, suc, Bool, true, false, List, [], ◌∷◌, ◌++◌, replicate, decimal, ℤ, Ok, Err, Result}
 use Rattle.std.specs.Fmt.{signed_decimal}
 use Rattle.rules.specs.declared.letter.Letter.{Letter}
 use Rattle.rules.specs.declared.refusal.Refusal.{Refusal}
@@ -53,6 +53,19 @@ signed false n = decimal n
 abbrev pub Filled : List ℕ → ℕ → List ℕ → Type 0
 Filled bytes from text = bytes ≡ replicate from 32 ++ text
 
--- What was printed stays, and behind it stands one more text, of which this holds.
-abbrev pub Appends : List ℕ → List ℕ → (List ℕ → Type 0) → Type 0
-Appends before after Holds = (text : List ℕ) × (after ≡ before ++ text) × Holds text
+-- A text with another one written over it from a place on, as far as it goes.
+abbrev pub over : ℕ → List ℕ → List ℕ → List ℕ
+over at line [] = []
+over (suc at) line (b ∷ text) = b ∷ over at line text
+over zero [] (b ∷ text) = b ∷ text
+over zero (c ∷ line) (b ∷ text) = c ∷ over zero line text
+
+-- What an answer is written on: its bytes, how long what was written is, and which lent text it is, 0 where none is lent.
+pub record Paper : Type 0 where
+  pub bytes : List ℕ
+  pub size : ℕ
+  pub lent : ℕ
+
+-- What was written stays, and behind it one more text is written, of which this holds.
+abbrev pub Appends : {O : Type 0} → (O → Paper) → (O → List ℕ → Paper) → O → O → (List ℕ → Type 0) → Type 0
+Appends view after from to Holds = (text : List ℕ) × (view to ≡ after from text) × Holds text

@@ -7,3 +7,4 @@ pub mod output;
 mod printing;
 mod reading;
 mod session;
+pub mod sink;

@@ -1,4 +1,4 @@
-ghost use Rattle.std.specs.Prelude.{◌≡◌, ◌++◌, length, Some, IfOk, MatchOption, vec_len, OnOk};
+ghost use Rattle.std.specs.Prelude.{◌≡◌, ℕ, List, length, Some, IfOk, MatchOption, vec_len, OnErr, OnOk};
 ghost use Rattle.rules.specs.declared.refusal.Refusal.{Refusal as a_refusal};
 ghost use Rattle.rules.specs.Rules.{first_broken};
 ghost use Rattle.gate.specs.Closed.{ClosedOver, closing_rules};
@@ -9,11 +9,13 @@ ghost use Rattle.desk.specs.Answered.{Ended, EndsDay, after_close, late_answer};
 ghost use Rattle.desk.specs.Effects.{session};
 ghost use Rattle.desk.specs.Output.{DayAnswer, Output, desk_over, program_orders, program_room};
 ghost use Rattle.desk.specs.Printed.{Appends};
+ghost use Rattle.desk.specs.Covering.{bytes_of, covered, grown};
 
 use super::event::Link;
 use super::printing::Fault;
 use super::reading::late_fault;
 use super::session::Session;
+use super::sink::{FixedText, Sink};
 use dayfile::lent::Tables;
 use dayfile::loaded::Loaded;
 use dayfile::loading::load;
@@ -58,8 +60,8 @@ fn close_day<P: Register, A: Register>(
 }
 
 // Answers what follows an accepted close.
-fn answer_late(late: &Rest, out: &mut Vec<u8>) -> Result<(), AllocError>
-    ensures { OnOk result (out.new.items ≡ out.old.items ++ after_close late.now.line late.now.bytes.now) }
+fn answer_late<S: Sink>(late: &Rest, out: &mut S) -> Result<(), S::Full>
+    ensures { OnOk result (S.Sink.view out.new ≡ S.Sink.after out.old (after_close late.now.line late.now.bytes.now)) }
 {
     if late.bytes.is_empty() {
         return Ok(());
@@ -69,16 +71,16 @@ fn answer_late(late: &Rest, out: &mut Vec<u8>) -> Result<(), AllocError>
 
 // Ends a day whose events are answered: closes it, and answers what follows the close, or leaves it where it stands. Answers
 // the figures that it closed with, if it did.
-fn end_day<P: Register, A: Register>(
+fn end_day<P: Register, A: Register, S: Sink>(
     closing: Option<Rest>,
     day: TradingDay,
     list: &SecurityList,
     participants: &P,
     accounts: &A,
     book: &[Order],
-    out: &mut Vec<u8>,
-) -> Result<Option<Figures>, AllocError>
-    ensures text { OnOk result (out.new.items ≡ out.old.items ++ late_answer closing.entry) }
+    out: &mut S,
+) -> Result<Option<Figures>, S::Full>
+    ensures text { OnOk result (S.Sink.view out.new ≡ S.Sink.after out.old (late_answer closing.entry)) }
     ensures ends { IfOk result (EndsDay closing.entry day.figures book.now) }
 {
     match closing {
@@ -95,13 +97,13 @@ fn end_day<P: Register, A: Register>(
 }
 
 // Answers a day that is loaded, over registers of its holdings.
-fn answer_loaded(
+fn answer_loaded<S: Sink>(
     loaded: Loaded,
     tables: &mut Tables,
     book: &mut [Order],
-    out: &mut Vec<u8>,
-) -> Result<Option<Figures>, AllocError>
-    ensures { IfOk result (λ closed. Appends out.old.items out.new.items (Ended (session (desk_over loaded.entry.day.figures tables.old book.old) Up) loaded.entry.events.line loaded.entry.events.bytes.now closed)) }
+    out: &mut S,
+) -> Result<Option<Figures>, S::Full>
+    ensures { IfOk result (λ closed. Appends S.Sink.view S.Sink.after out.old out.new (Ended (session (desk_over loaded.entry.day.figures tables.old book.old) Up) loaded.entry.events.line loaded.entry.events.bytes.now closed)) }
 {
     let Loaded { day, events } = loaded;
     let mut session = Session {
@@ -139,13 +141,13 @@ fn answer_loaded(
 }
 
 // Answers an input of any length over lent tables and a lent book; answers the figures that the day closed with, if it did.
-pub fn answer(
+fn answer_on<S: Sink>(
     input: &[u8],
     tables: &mut Tables,
     book: &mut [Order],
-    out: &mut Vec<u8>,
-) -> Result<Option<Figures>, AllocError>
-    ensures { IfOk result (λ closed. Appends out.old.items out.new.items (DayAnswer input.now (room_of tables.old) (length book.old) closed)) }
+    out: &mut S,
+) -> Result<Option<Figures>, S::Full>
+    ensures { IfOk result (λ closed. Appends S.Sink.view S.Sink.after out.old out.new (DayAnswer input.now (room_of tables.old) (length book.old) closed)) }
 {
     match load(LoadingDay {}, input, tables) {
         Ok(loaded) => answer_loaded(loaded, tables, book, out),
@@ -155,6 +157,19 @@ pub fn answer(
             Ok(None)
         }
     }
+}
+
+// Answers an input of any length over lent tables and a lent book, behind a text that grows; answers the figures that the day closed
+// with, if it did.
+pub fn answer(
+    input: &[u8],
+    tables: &mut Tables,
+    book: &mut [Order],
+    out: &mut Vec<u8>,
+) -> Result<Option<Figures>, AllocError>
+    ensures { IfOk result (λ closed. Appends bytes_of grown out.old.items out.new.items (DayAnswer input.now (room_of tables.old) (length book.old) closed)) }
+{
+    answer_on(input, tables, book, out)
 }
 
 // The rows of a day's tables, and of its book.
@@ -183,15 +198,16 @@ impl DayRows {
 }
 
 // Answers an input of any length over tables of so many rows and a book of so many orders; answers the figures that the day closed
-// with, if it did.
-pub fn replay(
+// with, if it did. Where there is no memory for the rows, nothing is written.
+fn replay_on<S: Sink>(
     heap: Global,
     input: &[u8],
     rows: usize,
     orders: usize,
-    out: &mut Vec<u8>,
-) -> Result<Option<Figures>, AllocError>
-    ensures { IfOk result (λ closed. Appends out.old.items out.new.items (DayAnswer input.now (counts rows rows rows rows) orders closed)) }
+    out: &mut S,
+) -> Result<Result<Option<Figures>, S::Full>, AllocError>
+    ensures answered { IfOk result (λ written. IfOk written (λ closed. Appends S.Sink.view S.Sink.after out.old out.new (DayAnswer input.now (counts rows rows rows rows) orders closed))) }
+    ensures kept { OnErr result (out.new ≡ out.old) }
 {
     let mut lent = DayRows::new(heap, rows, orders)?;
     let mut tables = Tables {
@@ -200,7 +216,38 @@ pub fn replay(
         account_holdings: Table::over(&mut lent.account_holdings, 0),
         designations: Table::over(&mut lent.designations, 0),
     };
-    answer(input, &mut tables, &mut lent.book, out)
+    Ok(answer_on(input, &mut tables, &mut lent.book, out))
+}
+
+// Answers an input of any length over tables of so many rows and a book of so many orders, behind a text that grows; answers the
+// figures that the day closed with, if it did.
+pub fn replay(
+    heap: Global,
+    input: &[u8],
+    rows: usize,
+    orders: usize,
+    out: &mut Vec<u8>,
+) -> Result<Option<Figures>, AllocError>
+    ensures { IfOk result (λ closed. Appends bytes_of grown out.old.items out.new.items (DayAnswer input.now (counts rows rows rows rows) orders closed)) }
+{
+    replay_on(heap, input, rows, orders, out)?
+}
+
+// The same over a text of a fixed length. Where there is no memory for the rows, it stays as it is.
+pub fn replay_over(
+    heap: Global,
+    input: &[u8],
+    rows: usize,
+    orders: usize,
+    text: &mut FixedText,
+) -> Result<Option<Figures>, AllocError>
+    ensures answered { IfOk result (λ closed. (line : List ℕ) × (record { bytes = text.new.text.now; size = text.new.length; lent = text.new.text.ghost_name } ≡ covered text.old.text.now text.old.text.ghost_name text.old.length line) × DayAnswer input.now (counts rows rows rows rows) orders closed line) }
+    ensures kept { OnErr result (text.new ≡ text.old) }
+{
+    match replay_on(heap, input, rows, orders, text)? {
+        Ok(closed) => Ok(closed),
+        Err(never) => match never {},
+    }
 }
 
 // The whole answer to an input: in every run a history leads to the day that it leaves, and the law holds of it.
@@ -210,8 +257,8 @@ pub fn output(heap: Global, input: &[u8]) -> Result<Vec<u8>, AllocError>
     let mut out = Vec::new(heap);
     if input.len() > MOST_INPUT {
         Fault::TooLong.write(&mut out)?;
-    } else {
-        replay(heap, input, ROWS, ORDERS, &mut out)?;
+        return Ok(out);
     }
+    replay(heap, input, ROWS, ORDERS, &mut out)?;
     Ok(out)
 }

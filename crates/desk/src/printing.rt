@@ -3,10 +3,10 @@ ghost use Rattle.fields.specs.Written.{columned, in_columns};
 ghost use Rattle.desk.specs.Printed.{Filled, event_line, fault_line, order_shown, printed_fault, refusal_shown, signed, signed_columns};
 
 use super::line::{put, put_balance, put_byte};
+use super::sink::Sink;
 use fields::fault::DayFault;
 use rules::letter::Letter;
 use rules::refusal::Refusal;
-use std::alloc::AllocError;
 
 // An event's line that has its line feed alone: a letter and three numbers stand before it.
 const BLANK: &[u8; 50] = b"                                                 \n";
@@ -37,7 +37,7 @@ fn has_room(is_negative: bool, magnitude: u64) -> bool
 // event to the next, so it is seldom put there anew.
 #[derive(Clone, Copy)]
 pub(crate) struct Form {
-    balance: i64,
+    pub(crate) balance: i64,
     line: [u8; 50],
     ghost filled: { Filled line 33 (signed_columns balance ++ (10 ∷ [])) },
 }
@@ -57,6 +57,13 @@ impl Form {
     #[tactic(auto, using(crate::proofs::Filling::zero_room))]
     pub(crate) fn new() -> Form {
         Form::of(0)
+    }
+
+    // The line that the form begins as.
+    pub(crate) fn line(&self) -> [u8; 50]
+        ensures { Filled result 33 (signed_columns self.now.balance ++ (10 ∷ [])) }
+    {
+        self.line
     }
 
     // Puts a balance on the form, if it has room in its columns; answers whether it has.
@@ -106,7 +113,7 @@ impl EventAnswer {
     }
 
     // Puts what stands before the balance; answers where the line begins.
-    fn put(&self, line: &mut [u8], end: usize) -> usize
+    pub(crate) fn put(&self, line: &mut [u8], end: usize) -> usize
         requires room { 1 + length (in_columns 16 (refusal_shown self.now.shows)) + length (in_columns 16 (order_shown self.now.shows)) ≤ end }
         requires within { end ≤ length line.old }
         ensures filled { Filled line.old end (signed_columns self.now.balance ++ (10 ∷ [])) → Filled line.new result (event_line self.now.letter self.now.shows self.now.balance) }
@@ -119,29 +126,26 @@ impl EventAnswer {
         put_byte(line, end, self.letter.byte())
     }
 
-    // Writes the event's line behind a text, on a form where each number has room in its columns.
-    pub(crate) fn write(&self, form: &mut Form, out: &mut Vec<u8>) -> Result<(), AllocError>
-        ensures { OnOk result (out.new.items ≡ out.old.items ++ event_line self.now.letter self.now.shows self.now.balance) }
+    // Writes the event's line, on a form where each number has room in its columns.
+    pub(crate) fn write<S: Sink>(&self, form: &mut Form, out: &mut S) -> Result<(), S::Full>
+        ensures { OnOk result (S.Sink.view out.new ≡ S.Sink.after out.old (event_line self.now.letter self.now.shows self.now.balance)) }
     {
         if !self.is_narrow() || !form.bears(self.balance) {
             return self.write_wide(out);
         }
-        let from = out.len();
-        out.extend_from_slice(&form.line)?;
-        self.put(&mut out[from..], 33);
-        Ok(())
+        out.print(self, form)
     }
 
-    // Writes the event's line, however wide, behind a text.
+    // Writes the event's line, however wide.
     #[cold]
-    fn write_wide(&self, out: &mut Vec<u8>) -> Result<(), AllocError>
+    fn write_wide<S: Sink>(&self, out: &mut S) -> Result<(), S::Full>
         requires { length (in_columns 16 (refusal_shown self.now.shows)) + length (in_columns 16 (order_shown self.now.shows)) ≤ 42 }
-        ensures { OnOk result (out.new.items ≡ out.old.items ++ event_line self.now.letter self.now.shows self.now.balance) }
+        ensures { OnOk result (S.Sink.view out.new ≡ S.Sink.after out.old (event_line self.now.letter self.now.shows self.now.balance)) }
     {
         let mut line = wide_line();
         let end = put_balance(&mut line, 127, self.balance);
         let from = self.put(&mut line, end);
-        out.extend_from_slice(&line[from..])
+        out.write(&line[from..])
     }
 }
 
@@ -169,10 +173,10 @@ impl Fault {
         }
     }
 
-    // Writes the fault's line behind a text.
+    // Writes the fault's line.
     #[tactic(auto, using(crate::proofs::Filling::columns_most))]
-    pub(crate) fn write(&self, out: &mut Vec<u8>) -> Result<(), AllocError>
-        ensures { OnOk result (out.new.items ≡ out.old.items ++ printed_fault self.now) }
+    pub(crate) fn write<S: Sink>(&self, out: &mut S) -> Result<(), S::Full>
+        ensures { OnOk result (S.Sink.view out.new ≡ S.Sink.after out.old (printed_fault self.now)) }
     {
         let (cause, column, letter, line, part) = self.numbers();
         let mut printed = wide_line();
@@ -182,6 +186,6 @@ impl Fault {
         let end = put(&mut printed, end, column);
         let end = put(&mut printed, end, cause);
         let from = put_byte(&mut printed, end, b'!');
-        out.extend_from_slice(&printed[from..])
+        out.write(&printed[from..])
     }
 }

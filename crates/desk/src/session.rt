@@ -9,6 +9,7 @@ ghost use Rattle.desk.specs.declared.event.Event.TheVariants as event;
 use super::event::{Event, Link};
 use super::printing::{EventAnswer, Fault, Form};
 use super::reading::read_event;
+use super::sink::Sink;
 use fields::rest::Rest;
 use gate::day::TradingDay;
 use gate::pass::Pass;
@@ -16,7 +17,6 @@ use history::reading::balance;
 use orders::order::{Order, Request};
 use registers::Register;
 use rules::refusal::Refusal;
-use std::alloc::AllocError;
 use tables::table::SecurityList;
 
 // What the events work on: the day, the securities, the registers, the book, and the link to the market.
@@ -127,14 +127,14 @@ impl<P: Register, A: Register> Session<'_, '_, P, A> {
     }
 
     // Does an event's work and writes its line, on a form where it has room; answers whether the day closes.
-    fn respond(
+    fn respond<S: Sink>(
         &mut self,
         event: Event,
         form: &mut Form,
-        out: &mut Vec<u8>,
-    ) -> Result<bool, AllocError>
+        out: &mut S,
+    ) -> Result<bool, S::Full>
         ensures after { session_of P.Register.meaning A.Register.meaning self.new ≡ after_event (session_of P.Register.meaning A.Register.meaning self.old) event }
-        ensures wrote { OnOk result (out.new.items ≡ out.old.items ++ event_answer (session_of P.Register.meaning A.Register.meaning self.old) event) }
+        ensures wrote { OnOk result (S.Sink.view out.new ≡ S.Sink.after out.old (event_answer (session_of P.Register.meaning A.Register.meaning self.old) event)) }
         ensures closing { IfOk result (λ b. b ≡ closes (session_of P.Register.meaning A.Register.meaning self.old) event) }
     {
         let shows = self.work(event);
@@ -148,13 +148,13 @@ impl<P: Register, A: Register> Session<'_, '_, P, A> {
     }
 
     // Answers the events; what follows an accepted close is left.
-    pub(crate) fn answer<'r>(
+    pub(crate) fn answer<'r, S: Sink>(
         &mut self,
         events: Rest<'r>,
-        out: &mut Vec<u8>,
-    ) -> Result<Option<Rest<'r>>, AllocError>
+        out: &mut S,
+    ) -> Result<Option<Rest<'r>>, S::Full>
         ensures reaches { Reaches (session_of P.Register.meaning A.Register.meaning self.old).desk (session_of P.Register.meaning A.Register.meaning self.new).desk }
-        ensures answered { IfOk result (λ late. Appends out.old.items out.new.items (λ text. Stopped (session_of P.Register.meaning A.Register.meaning self.old) events.entry.line events.entry.bytes.now text (session_of P.Register.meaning A.Register.meaning self.new).desk late)) }
+        ensures answered { IfOk result (λ late. Appends S.Sink.view S.Sink.after out.old out.new (λ text. Stopped (session_of P.Register.meaning A.Register.meaning self.old) events.entry.line events.entry.bytes.now text (session_of P.Register.meaning A.Register.meaning self.new).desk late)) }
     {
         let mut rest = events;
         let mut form = Form::new();

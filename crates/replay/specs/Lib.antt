@@ -1,1 +1,1 @@
-mod Replayed
+pub mod Replayed

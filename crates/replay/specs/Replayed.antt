@@ -1,5 +1,5 @@
 -- What a replay answers.
-use Rattle.std.specs.Prelude.{◌≡◌, ℕ, Bool, cond, ◌||◌, List, ◌++◌, length, drop, Option, nat_le, nat_lt}
+use Rattle.std.specs.Prelude.{◌≡◌, ℕ, ◌-◌, ◌^◌, Bool, cond, ◌||◌, List, length, min, Option, nat_le, nat_lt}
 use Rattle.rules.specs.declared.range.Quantity.TheVariants as quantity
 use Rattle.rules.specs.Ranges.{range_of}
 use Rattle.replay.specs.declared.outcome.Outcome.{Outcome}
@@ -8,6 +8,7 @@ use Rattle.gate.specs.declared.figures.Figures.{Figures}
 use Rattle.gate.specs.Balances.{most_orders}
 use Rattle.dayfile.specs.DayPart.{counts}
 use Rattle.desk.specs.Output.{DayAnswer}
+use Rattle.desk.specs.Printed.{over}
 
 -- The most rows that each table of a replay may have: as many lines as a group may count.
 abbrev pub most_rows : ℕ
@@ -24,16 +25,13 @@ outcome_number TooMany = 3
 abbrev pub too_many : ℕ → ℕ → Bool
 too_many rows orders = nat_lt most_rows rows || nat_lt most_orders orders
 
--- How an answer comes out that is to be written over a text: the text may be too short for it.
+-- How an answer comes out that is written over a text: the text may be too short for it.
 abbrev pub written_as : List ℕ → List ℕ → Outcome
 written_as answer before = cond (nat_le (length answer) (length before)) Answered Short
 
--- A text with an answer at its beginning, if it has room for it.
-abbrev pub written_over : List ℕ → List ℕ → List ℕ
-written_over answer before = cond (nat_le (length answer) (length before)) (answer ++ drop (length answer) before) before
-
--- Where an answer is made, it answers the input over so many rows and orders, its length is told, and it is written if it fits.
+-- Where an answer is made, it answers the input over so many rows and orders, its length is told as far as a length can tell it, and
+-- it is written over the text, as far as the text goes.
 abbrev pub Written : List ℕ → ℕ → ℕ → List ℕ → List ℕ → ℕ → ℕ → Type 0
 Written input rows orders before after long number =
     (closed : Option Figures) × (answer : List ℕ) × DayAnswer input (counts rows rows rows rows) orders closed answer
-    × (long ≡ length answer) × (after ≡ written_over answer before) × (number ≡ outcome_number (written_as answer before))
+    × (long ≡ min (2 ^ 64 - 1) (length answer)) × (after ≡ over 0 answer before) × (number ≡ outcome_number (written_as answer before))

@@ -1,53 +1,23 @@
 // The answers to whole inputs, for programs that are not written in Rattle.
 #![tactic(auto)]
 
-ghost use Rattle.std.specs.Prelude.{◌≡◌, ◌<◌, ◌≤◌, nat_eq, ◌++◌, cond, drop, length, nat_le, IfOk, Option};
-ghost use Rattle.gate.specs.declared.figures.Figures.{Figures as closing};
+ghost use Rattle.std.specs.Prelude.{◌≡◌, ◌<◌, ◌≤◌, nat_eq};
 ghost use Rattle.gate.specs.Balances.{most_orders};
-ghost use Rattle.dayfile.specs.DayPart.{counts};
-ghost use Rattle.desk.specs.Output.{DayAnswer};
 ghost use Rattle.replay.specs.declared.outcome.Outcome.TheVariants.{Short, TooMany};
 ghost use Rattle.replay.specs.Replayed.{Written, most_rows, outcome_number, too_many};
 
 mod outcome;
 
-use desk::output::replay;
+use desk::output::replay_over;
+use desk::sink::FixedText;
 use outcome::Outcome;
-use std::alloc::{AllocError, Global};
+use std::alloc::Global;
 
 // The most rows that each table may have.
 const MOST_ROWS: u64 = 16_384;
 
 // The most orders that the book may have.
 const MOST_ORDERS: u64 = 50_000;
-
-// The answer to an input over tables of so many rows, and a book of so many orders. It begins with room for so many bytes, and
-// grows where it is longer.
-fn answer(
-    heap: Global,
-    input: &[u8],
-    rows: usize,
-    orders: usize,
-    room: usize,
-) -> Result<Vec<u8>, AllocError>
-    ensures { IfOk result (λ text. (closed : Option closing) × DayAnswer input.now (counts rows rows rows rows) orders closed text.items) }
-{
-    let mut text = Vec::with_capacity(heap, room)?;
-    replay(heap, input, rows, orders, &mut text)?;
-    Ok(text)
-}
-
-// Writes an answer at the beginning of a text, if the text has room for it.
-fn write(answer: &[u8], text: &mut [u8]) -> bool
-    ensures fits { result ≡ nat_le (length answer.now) (length text.old) }
-    ensures wrote { text.new ≡ cond result (answer.now ++ drop (length answer.now) text.old) text.old }
-{
-    if text.len() < answer.len() {
-        return false;
-    }
-    text[..answer.len()].copy_from_slice(answer);
-    true
-}
 
 // The most rows that each table of a replay may have.
 #[unsafe(no_mangle)]
@@ -65,8 +35,8 @@ pub extern "C" fn northbound_most_orders() -> u64
     MOST_ORDERS
 }
 
-// Answers a whole input of any length over tables of so many rows and a book of so many orders, into a text that is long enough;
-// else says how long the answer is.
+// Answers a whole input of any length over tables of so many rows and a book of so many orders, and says how long the answer is. It
+// is written over a text; one that is too short has its beginning.
 #[unsafe(no_mangle)]
 pub extern "C" fn northbound_replay(
     heap: Global,
@@ -85,14 +55,14 @@ pub extern "C" fn northbound_replay(
     if rows > MOST_ROWS || orders > MOST_ORDERS {
         return Outcome::TooMany as u32;
     }
-    // Few answers are longer than their input.
-    let room = text.len().min(input.len());
-    let Ok(answer) = answer(heap, input, rows as usize, orders as usize, room) else {
+    let mut written = FixedText::over(text);
+    let Ok(_) = replay_over(heap, input, rows as usize, orders as usize, &mut written) else {
         return Outcome::NoMemory as u32;
     };
-    *length = answer.len();
-    if !write(&answer, text) {
-        return Outcome::Short as u32;
+    *length = written.length.min(usize::MAX as u128) as usize;
+    if written.is_whole() {
+        Outcome::Answered as u32
+    } else {
+        Outcome::Short as u32
     }
-    Outcome::Answered as u32
 }

@@ -16,7 +16,7 @@ returns-then-closing-clause-answered g c =
     let line = c.events.rest.line in
     let left = c.pass.ensures.left ∙ ap (λ l. drop (width_of l) bytes) c.letter.ensures in
     let next = counted_on c.letter.result c.in-Ok.event bytes line c.pass.new.self.line c.letter.ensures c.in-Ok.ensures.long c.pass.ensures.counted in
-    at_close _ _ _ _ line bytes c.args.out.now.items c.events.out.items c.events.invariant.1 c.in-Ok.event _ _ _ c.respond.new.out.items c.in-Ok.ensures.is c.respond.ensures.after next left c.in_ok-closing-in-Ok.ensures.wrote (sym c.in_ok-closing-in-Ok.ensures.closing ∙ c.if-closing.true)
+    at_close g.S.Sink.view g.S.Sink.after g.met.S.Sink.together _ _ _ _ line bytes c.args.out.now c.events.out c.events.invariant.1 c.in-Ok.event _ _ _ c.respond.new.out c.in-Ok.ensures.is c.respond.ensures.after next left c.in_ok-closing-in-Ok.ensures.wrote (sym c.in_ok-closing-in-Ok.ensures.closing ∙ c.if-closing.true)
 
 pub events-preserved : goal.events-preserved
 events-preserved g c =
@@ -26,12 +26,12 @@ events-preserved g c =
     let next = counted_on c.letter.result c.in-Ok.event bytes line c.pass.new.self.line c.letter.ensures c.in-Ok.ensures.long c.pass.ensures.counted in
     let seen = session_of g.P.Register.meaning g.A.Register.meaning in (
       by_turn (seen c.args.self.now).desk (seen c.events.self) (seen c.respond.new.self) c.in-Ok.event c.events.invariant.0 c.respond.ensures.after,
-      one_more _ _ _ _ line bytes c.args.out.now.items c.events.out.items c.events.invariant.1 c.in-Ok.event _ _ _ c.respond.new.out.items c.in-Ok.ensures.is c.respond.ensures.after next left c.in_ok-closing-in-Ok.ensures.wrote (sym c.in_ok-closing-in-Ok.ensures.closing ∙ c.if-closing.false),
+      one_more g.S.Sink.view g.S.Sink.after g.met.S.Sink.together _ _ _ _ line bytes c.args.out.now c.events.out c.events.invariant.1 c.in-Ok.event _ _ _ c.respond.new.out c.in-Ok.ensures.is c.respond.ensures.after next left c.in_ok-closing-in-Ok.ensures.wrote (sym c.in_ok-closing-in-Ok.ensures.closing ∙ c.if-closing.false),
     )
 
 pub returns-in-Err-clause-answered : goal.returns-in-Err-clause-answered
 returns-in-Err-clause-answered g c =
-    at_fault _ _ _ _ _ c.events.rest.bytes.now c.args.out.now.items c.events.out.items c.events.invariant.1 c.in-Err.fault c.write.new.out.items c.events-test.ensures c.in-Err.ensures.is c.in_ok-write-in-Err.ensures
+    at_fault g.S.Sink.view g.S.Sink.after g.met.S.Sink.together _ _ _ _ _ c.events.rest.bytes.now c.args.out.now c.events.out c.events.invariant.1 c.in-Err.fault c.write.new.out c.events-test.ensures c.in-Err.ensures.is c.in_ok-write-in-Err.ensures
 
 pub returns-clause-answered : goal.returns-clause-answered
-returns-clause-answered g c = at_end _ _ _ _ _ c.events.rest.bytes.now c.args.out.now.items c.events.out.items c.events.invariant.1 c.events-test.ensures
+returns-clause-answered g c = at_end g.S.Sink.view g.S.Sink.after g.met.S.Sink.together _ _ _ _ _ c.events.rest.bytes.now c.args.out.now c.events.out c.events.invariant.1 c.events-test.ensures
