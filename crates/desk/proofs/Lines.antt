@@ -20,7 +20,7 @@ use Rattle.fields.specs.Reading.{ranging}
 use Rattle.dayfile.specs.Rows.{named_case}
 use Rattle.desk.specs.declared.event.Event.{Event}
 use Rattle.desk.specs.declared.event.Event.TheVariants as event
-use Rattle.desk.specs.Events.{request_of, event_in, event_made, event_of, link_numbered}
+use Rattle.desk.specs.Events.{event_in, event_made, event_of, link_numbered}
 
 read_at : (t : List ℕ) (j : ℕ) (f : Field) (q : Quantity) → FieldAt t j f → ranging q f.bytes.now f.column ≡ field_in t j q
 read_at t j f q at = ap₂ (ranging q) at.bytes at.column
@@ -49,8 +49,8 @@ three (Ok x) (Ok y) (Err e) K = refl
 three (Ok x) (Err e) c K = refl
 three (Err e) b c K = refl
 
-five : (side : Side) (a b c d e : Read) (K : List ℕ → Result Event FieldFault) → ((p q r s t : ℕ) → Ok (event.Request (request_of side p q r s t)) ≡ K (p ∷ (q ∷ (r ∷ (s ∷ (t ∷ []))))))
-    → and_then (and_then a (λ p. and_then b (λ q. and_then c (λ r. and_then d (λ s. and_then e (λ t. Ok (request_of side p q r s t))))))) (λ request. Ok (event.Request request))
+five : (side : Side) (a b c d e : Read) (K : List ℕ → Result Event FieldFault) → ((p q r s t : ℕ) → Ok (event.Request side p q r s t) ≡ K (p ∷ (q ∷ (r ∷ (s ∷ (t ∷ []))))))
+    → and_then a (λ p. and_then b (λ q. and_then c (λ r. and_then d (λ s. and_then e (λ t. Ok (event.Request side p q r s t))))))
     ≡ and_then (and_then a (λ p. and_then (and_then b (λ q. and_then (and_then c (λ r. and_then (and_then d (λ s. and_then (and_then e (λ t. Ok (t ∷ []))) (λ ns. Ok (s ∷ ns)))) (λ ns. Ok (r ∷ ns)))) (λ ns. Ok (q ∷ ns)))) (λ ns. Ok (p ∷ ns)))) K
 five side (Ok p) (Ok q) (Ok r) (Ok s) (Ok t) K IfOk = IfOk p q r s t
 five side (Ok p) (Ok q) (Ok r) (Ok s) (Err f) K IfOk = refl
@@ -65,7 +65,7 @@ opened_as t l o = sym (ap (λ r. and_then r (λ x. and_then (numbers_from 0 (let
 
 -- an order's line, of either side
 requested : (t : List ℕ) (side : Side) → opening event_letters t ≡ Ok (by_side side letter.Buy letter.Sell)
-    → and_then (and_then (field_in t 0 quantity.AnyNumber) (λ p. and_then (field_in t 1 quantity.AnyNumber) (λ q. and_then (field_in t 2 quantity.AnyNumber) (λ r. and_then (field_in t 3 quantity.AnyNumber) (λ s. and_then (field_in t 4 quantity.AnyNumber) (λ u. Ok (request_of side p q r s u))))))) (λ request. Ok (event.Request request)) ≡ event_of t
+    → and_then (field_in t 0 quantity.AnyNumber) (λ p. and_then (field_in t 1 quantity.AnyNumber) (λ q. and_then (field_in t 2 quantity.AnyNumber) (λ r. and_then (field_in t 3 quantity.AnyNumber) (λ s. and_then (field_in t 4 quantity.AnyNumber) (λ u. Ok (event.Request side p q r s u)))))) ≡ event_of t
 requested t Buy o = five Buy (field_in t 0 quantity.AnyNumber) (field_in t 1 quantity.AnyNumber) (field_in t 2 quantity.AnyNumber) (field_in t 3 quantity.AnyNumber) (field_in t 4 quantity.AnyNumber) (event_made letter.Buy) (λ p q r s u. refl) ∙ opened_as t letter.Buy o
 requested t Sell o = five Sell (field_in t 0 quantity.AnyNumber) (field_in t 1 quantity.AnyNumber) (field_in t 2 quantity.AnyNumber) (field_in t 3 quantity.AnyNumber) (field_in t 4 quantity.AnyNumber) (event_made letter.Sell) (λ p q r s u. refl) ∙ opened_as t letter.Sell o
 

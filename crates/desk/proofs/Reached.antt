@@ -11,7 +11,7 @@ use Rattle.desk.specs.declared.event.Event.{Event}
 use Rattle.desk.specs.declared.event.Event.TheVariants as event
 use Rattle.desk.specs.declared.event.Link.{Link}
 use Rattle.desk.specs.declared.event.Link.TheVariants.{Down, Up}
-use Rattle.desk.specs.Effects.{Session, after_event, answered_request, effect, pass_for, passed_on}
+use Rattle.desk.specs.Effects.{Session, after_event, answered_request, effect, pass_for, passed_on, request_of}
 use Rattle.desk.specs.Answered.{Reaches}
 
 pub stays : (d : Desk) → Reaches d d
@@ -35,7 +35,9 @@ by_request None link d a q =
 
 -- an event's desk is reached from the desk before it
 pub by_event : (s : Session) (e : Event) → Reaches s.desk (effect s e).desk
-by_event s (event.Request request) = by_request (refusal_of s.desk (reserve request)) s.link s.desk request refl
+by_event s (event.Request side p a c q n) =
+    let request = request_of side p a c q n in
+    by_request (refusal_of s.desk (reserve request)) s.link s.desk request refl
 by_event s (event.Trade order shares price) = by_call s.desk (trade order shares price)
 by_event s (event.Return order) = by_call s.desk (give_back order)
 by_event s (event.Confirm order) = by_call s.desk (confirm order)

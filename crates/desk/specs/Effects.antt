@@ -3,6 +3,7 @@ use Rattle.std.specs.Prelude.{ℕ, ◌+◌, Bool, true, false, Some, None, Ok, E
 use Rattle.rules.specs.declared.refusal.Refusal.{Refusal}
 use Rattle.rules.specs.declared.refusal.Refusal.TheVariants as refusal
 use Rattle.rules.specs.Rules.{first_broken}
+use Rattle.rules.specs.declared.side.Side.{Side}
 use Rattle.tables.specs.Tables.{lines_of}
 use Rattle.registers.specs.Meaning.{Meaning}
 use Rattle.orders.specs.declared.order.Request.{Request}
@@ -62,12 +63,19 @@ abbrev pub answered_request : Option Refusal → Link → Desk → Request → E
 answered_request (Some e) link d a = record { shows = Err e; desk = d }
 answered_request None link d a = passed_on link (accepted d (reserve a)) (pass_for d)
 
+-- The event of a request, and the request of its numbers.
+abbrev pub requested : Request → Event
+requested a = event.Request a.side a.participant a.account a.code a.price a.shares
+
+abbrev pub request_of : Side → ℕ → ℕ → ℕ → ℕ → ℕ → Request
+request_of side participant account code price shares = record { participant = participant; account = account; code = code; side = side; price = price; shares = shares }
+
 -- What each event comes to.
 abbrev pub effect : Session → Event → Effect
 effect s event.Step = one_call s.desk step 0
 effect s (event.Notice code foreign total) = one_call s.desk (notice code foreign total) 0
 effect s (event.Link state) = record { shows = Ok 0; desk = s.desk }
-effect s (event.Request request) = answered_request (refusal_of s.desk (reserve request)) s.link s.desk request
+effect s (event.Request side p a c q n) = answered_request (refusal_of s.desk (reserve (request_of side p a c q n))) s.link s.desk (request_of side p a c q n)
 effect s (event.Trade order shares price) = one_call s.desk (trade order shares price) order
 effect s (event.Return order) = one_call s.desk (give_back order) order
 effect s (event.Confirm order) = one_call s.desk (confirm order) order
@@ -80,7 +88,7 @@ abbrev pub link_after : Link → Event → Link
 link_after link event.Step = link
 link_after link (event.Notice code foreign total) = link
 link_after link (event.Link state) = state
-link_after link (event.Request request) = link
+link_after link (event.Request side p a c q n) = link
 link_after link (event.Trade order shares price) = link
 link_after link (event.Return order) = link
 link_after link (event.Confirm order) = link
@@ -102,7 +110,7 @@ abbrev pub closed_by : Event → Result ℕ Refusal → Bool
 closed_by event.Step shows = false
 closed_by (event.Notice code foreign total) shows = false
 closed_by (event.Link state) shows = false
-closed_by (event.Request request) shows = false
+closed_by (event.Request side p a c q n) shows = false
 closed_by (event.Trade order shares price) shows = false
 closed_by (event.Return order) shows = false
 closed_by (event.Confirm order) shows = false

@@ -4,7 +4,6 @@ use Rattle.rules.specs.declared.letter.Letter.{Letter}
 use Rattle.rules.specs.declared.letter.Letter.TheVariants as letter
 use Rattle.rules.specs.declared.range.Quantity.TheVariants as quantity
 use Rattle.rules.specs.declared.refusal.Refusal.TheVariants as refusal
-use Rattle.rules.specs.declared.side.Side.{Side}
 use Rattle.rules.specs.declared.side.Side.TheVariants.{Buy, Sell}
 use Rattle.rules.specs.Cases.{numbered}
 use Rattle.rules.specs.Letters.{letter_rules}
@@ -17,7 +16,6 @@ use Rattle.fields.specs.Faults.{and_then}
 use Rattle.fields.specs.Layout.{opening, event_letters}
 use Rattle.fields.specs.Numbers.{numbers_from}
 use Rattle.fields.specs.Reading.{ranging}
-use Rattle.orders.specs.declared.order.Request.{Request}
 use Rattle.dayfile.specs.Rows.{named_case}
 use Rattle.desk.specs.declared.event.Link.{Link}
 use Rattle.desk.specs.declared.event.Link.TheVariants.{Down, Up}
@@ -37,17 +35,13 @@ link_numbered = numbered link_number (Down ∷ (Up ∷ []))
 abbrev pub no_event : Result Event FieldFault
 no_event = Err (record { cause = refusal.Letter; column = 1 })
 
--- A request of a side: participant, account, code, price and shares.
-abbrev pub request_of : Side → ℕ → ℕ → ℕ → ℕ → ℕ → Request
-request_of side participant account code price shares = record { participant = participant; account = account; code = code; side = side; price = price; shares = shares }
-
 -- The event of a letter and its numbers; a letter of the day part makes none.
 abbrev pub event_made : Letter → List ℕ → Result Event FieldFault
 event_made letter.Step ns = Ok event.Step
 event_made letter.Notice ns = Ok (event.Notice (slice_index ns 0) (slice_index ns 1) (slice_index ns 2))
 event_made letter.Link ns = and_then (named_case 2 (link_numbered (slice_index ns 0))) (λ state. Ok (event.Link state))
-event_made letter.Buy ns = Ok (event.Request (request_of Buy (slice_index ns 0) (slice_index ns 1) (slice_index ns 2) (slice_index ns 3) (slice_index ns 4)))
-event_made letter.Sell ns = Ok (event.Request (request_of Sell (slice_index ns 0) (slice_index ns 1) (slice_index ns 2) (slice_index ns 3) (slice_index ns 4)))
+event_made letter.Buy ns = Ok (event.Request Buy (slice_index ns 0) (slice_index ns 1) (slice_index ns 2) (slice_index ns 3) (slice_index ns 4))
+event_made letter.Sell ns = Ok (event.Request Sell (slice_index ns 0) (slice_index ns 1) (slice_index ns 2) (slice_index ns 3) (slice_index ns 4))
 event_made letter.Trade ns = Ok (event.Trade (slice_index ns 0) (slice_index ns 1) (slice_index ns 2))
 event_made letter.Return ns = Ok (event.Return (slice_index ns 0))
 event_made letter.Confirm ns = Ok (event.Confirm (slice_index ns 0))
@@ -70,7 +64,7 @@ abbrev pub event_letter : Event → Letter
 event_letter event.Step = letter.Step
 event_letter (event.Notice code foreign total) = letter.Notice
 event_letter (event.Link state) = letter.Link
-event_letter (event.Request request) = by_side request.side letter.Buy letter.Sell
+event_letter (event.Request side participant account code price shares) = by_side side letter.Buy letter.Sell
 event_letter (event.Trade order shares price) = letter.Trade
 event_letter (event.Return order) = letter.Return
 event_letter (event.Confirm order) = letter.Confirm
@@ -82,15 +76,6 @@ event_letter event.Close = letter.Close
 abbrev pub any_number : Field → Result ℕ FieldFault
 any_number f = ranging quantity.AnyNumber f.bytes.now f.column
 
--- The request of five fields, judged from the left.
-abbrev pub request_read : Side → Field → Field → Field → Field → Field → Result Request FieldFault
-request_read side participant account code price shares =
-    and_then (any_number participant) (λ p.
-    and_then (any_number account) (λ a.
-    and_then (any_number code) (λ c.
-    and_then (any_number price) (λ q.
-    and_then (any_number shares) (λ n. Ok (request_of side p a c q n))))))
-
 -- The state of the link that a field says.
 abbrev pub link_read : Field → Result Link FieldFault
 link_read f = and_then (ranging quantity.Link f.bytes.now f.column) (λ n. named_case 2 (link_numbered n))
@@ -100,7 +85,8 @@ abbrev pub event_in : EventLine → Result Event FieldFault
 event_in line.Step = Ok event.Step
 event_in (line.Notice a b c) = and_then (any_number a) (λ n. and_then (any_number b) (λ f. and_then (any_number c) (λ t. Ok (event.Notice n f t))))
 event_in (line.Link a) = and_then (link_read a) (λ state. Ok (event.Link state))
-event_in (line.Request side a b c d e) = and_then (request_read side a b c d e) (λ request. Ok (event.Request request))
+event_in (line.Request side a b c d e) =
+    and_then (any_number a) (λ p. and_then (any_number b) (λ q. and_then (any_number c) (λ r. and_then (any_number d) (λ s. and_then (any_number e) (λ t. Ok (event.Request side p q r s t))))))
 event_in (line.Trade a b c) = and_then (any_number a) (λ n. and_then (any_number b) (λ k. and_then (any_number c) (λ q. Ok (event.Trade n k q))))
 event_in (line.Return a) = and_then (any_number a) (λ n. Ok (event.Return n))
 event_in (line.Confirm a) = and_then (any_number a) (λ n. Ok (event.Confirm n))

@@ -4,7 +4,6 @@ ghost use Rattle.rules.specs.declared.refusal.Refusal.TheVariants as refusal;
 ghost use Rattle.desk.specs.Effects.{closed_by};
 ghost use Rattle.desk.specs.Events.{event_letter, link_numbered};
 
-use orders::order::Request;
 use rules::letter::Letter;
 use rules::refusal::Refusal;
 use rules::side::Side;
@@ -35,14 +34,40 @@ impl TryFrom<u64> for Link {
 #[derive(Clone, Copy)]
 pub enum Event {
     Step,
-    Notice { code: u64, foreign: u64, total: u64 },
-    Link { state: Link },
-    Request { request: Request },
-    Trade { order: u64, shares: u64, price: u64 },
-    Return { order: u64 },
-    Confirm { order: u64 },
-    Decline { order: u64 },
-    Cancel { order: u64, participant: u64 },
+    Notice {
+        code: u64,
+        foreign: u64,
+        total: u64,
+    },
+    Link {
+        state: Link,
+    },
+    Request {
+        side: Side,
+        participant: u64,
+        account: u64,
+        code: u64,
+        price: u64,
+        shares: u64,
+    },
+    Trade {
+        order: u64,
+        shares: u64,
+        price: u64,
+    },
+    Return {
+        order: u64,
+    },
+    Confirm {
+        order: u64,
+    },
+    Decline {
+        order: u64,
+    },
+    Cancel {
+        order: u64,
+        participant: u64,
+    },
     Close,
 }
 
@@ -55,7 +80,7 @@ impl Event {
             Event::Step => Letter::Step,
             Event::Notice { .. } => Letter::Notice,
             Event::Link { .. } => Letter::Link,
-            Event::Request { request } => match request.side {
+            Event::Request { side, .. } => match side {
                 Side::Buy => Letter::Buy,
                 Side::Sell => Letter::Sell,
             },

@@ -4,46 +4,22 @@ ghost use Rattle.fields.specs.Faults.{day_at, line_at};
 ghost use Rattle.fields.specs.Layout.{width_of};
 ghost use Rattle.fields.specs.Lines.{event_letter_of};
 ghost use Rattle.desk.specs.Answered.{event_fault, late_fault};
-ghost use Rattle.desk.specs.Events.{any_number, request_read, event_in, event_letter, event_of, link_read};
+ghost use Rattle.desk.specs.Events.{any_number, event_in, event_letter, event_of, link_read};
 
 use super::event::{Event, Link};
 use fields::fault::{DayFault, FieldFault, LineFault};
 use fields::field::Field;
 use fields::line::{EventLine, first_byte};
 use fields::rest::Rest;
-use orders::order::Request;
 use rules::letter::Part;
 use rules::range::Quantity;
 use rules::refusal::Refusal;
-use rules::side::Side;
 
 // A field's number, which may be any.
 fn any_number(field: Field) -> Result<u64, FieldFault>
     ensures { result ≡ any_number field.entry }
 {
     field.ranged(Quantity::AnyNumber)
-}
-
-// The request of five fields, judged from the left.
-fn request(
-    side: Side,
-    participant: Field,
-    account: Field,
-    code: Field,
-    price: Field,
-    shares: Field,
-) -> Result<Request, FieldFault>
-    ensures is { result ≡ request_read side participant.entry account.entry code.entry price.entry shares.entry }
-    ensures same { IfOk result (λ a. a.side ≡ side) }
-{
-    Ok(Request {
-        participant: any_number(participant)?,
-        account: any_number(account)?,
-        code: any_number(code)?,
-        side,
-        price: any_number(price)?,
-        shares: any_number(shares)?,
-    })
 }
 
 // The state of the link that a field says.
@@ -81,7 +57,12 @@ fn event_in(line: EventLine) -> Result<Event, FieldFault>
             price,
             shares,
         } => Event::Request {
-            request: request(side, participant, account, code, price, shares)?,
+            side,
+            participant: any_number(participant)?,
+            account: any_number(account)?,
+            code: any_number(code)?,
+            price: any_number(price)?,
+            shares: any_number(shares)?,
         },
         EventLine::Trade {
             order,

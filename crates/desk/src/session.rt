@@ -2,7 +2,7 @@ ghost use Rattle.std.specs.Prelude.{◌≡◌, ◌++◌, IfOk, OnOk};
 ghost use Rattle.rules.specs.Rules.{first_broken};
 ghost use Rattle.gate.specs.Closed.{closing_rules};
 ghost use Rattle.desk.specs.Answered.{Reaches, Stopped, event_answer};
-ghost use Rattle.desk.specs.Effects.{after_event, closes, effect, passed_on, session_of};
+ghost use Rattle.desk.specs.Effects.{after_event, closes, effect, passed_on, requested, session_of};
 ghost use Rattle.desk.specs.Printed.{Appends};
 ghost use Rattle.desk.specs.declared.event.Event.TheVariants as event;
 
@@ -71,8 +71,8 @@ impl<P: Register, A: Register> Session<'_, '_, P, A> {
 
     // Reserves a request, and passes its order on.
     fn place(&mut self, request: Request) -> Result<u64, Refusal>
-        ensures shows { result ≡ (effect (session_of P.Register.meaning A.Register.meaning self.old) (event.Request request)).shows }
-        ensures after { session_of P.Register.meaning A.Register.meaning self.new ≡ after_event (session_of P.Register.meaning A.Register.meaning self.old) (event.Request request) }
+        ensures shows { result ≡ (effect (session_of P.Register.meaning A.Register.meaning self.old) (requested request)).shows }
+        ensures after { session_of P.Register.meaning A.Register.meaning self.new ≡ after_event (session_of P.Register.meaning A.Register.meaning self.old) (requested request) }
     {
         let pass = self.day.reserve(
             self.list,
@@ -100,7 +100,21 @@ impl<P: Register, A: Register> Session<'_, '_, P, A> {
                 self.link = state;
                 Ok(0)
             }
-            Event::Request { request } => self.place(request),
+            Event::Request {
+                side,
+                participant,
+                account,
+                code,
+                price,
+                shares,
+            } => self.place(Request {
+                participant,
+                account,
+                code,
+                side,
+                price,
+                shares,
+            }),
             Event::Trade {
                 order,
                 shares,
