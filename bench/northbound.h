@@ -22,7 +22,7 @@ enum {
     NORTHBOUND_ANSWERED = 0,
     /* The answer is longer than the text that was given for it. */
     NORTHBOUND_TEXT_TOO_SHORT = 1,
-    /* malloc had no memory for the tables, the book or the answer. */
+    /* malloc had no memory for the tables or the book. */
     NORTHBOUND_MEMORY = 2,
     /* More rows than northbound_most_rows or more orders than northbound_most_orders were asked for. */
     NORTHBOUND_TOO_LARGE = 3
@@ -42,12 +42,12 @@ uint64_t northbound_most_orders(void);
  *   text, text_length     where the answer goes, and how many bytes there are for it
  *   length                where its length goes
  *
- * The tables and the book are allocated by the call and freed before it ends. What is answered, and what then is in
- * *length and in text:
+ * The tables and the book are allocated by the call and freed before it ends; the answer is written straight into text.
+ * What is answered, and what then is in *length and in text:
  *
  *   NORTHBOUND_ANSWERED        the answer's length; the answer in the first *length bytes of text, and the bytes after
  *                              them as they were
- *   NORTHBOUND_TEXT_TOO_SHORT  the answer's length, which is above text_length; text as it was
+ *   NORTHBOUND_TEXT_TOO_SHORT  the answer's length, which is above text_length; the answer's beginning in all of text
  *   NORTHBOUND_MEMORY          0; text as it was
  *   NORTHBOUND_TOO_LARGE       0; text as it was
  *

@@ -24,7 +24,7 @@ unsafe extern "C" {
 /// Why there is no answer.
 #[derive(Clone, Copy, Debug, PartialEq, Eq)]
 pub enum Refused {
-    /// There was no memory for the tables, the book or the answer.
+    /// There was no memory for the tables or the book.
     Memory,
     /// More rows or more orders were asked for than there can be.
     TooLarge,
@@ -81,8 +81,8 @@ pub fn replay(input: &[u8], rows: usize, orders: usize, text: &mut Vec<u8>) -> R
     }
 }
 
-/// Whether the library writes an answer and nothing else: into a text that is longer than the answer, one of its
-/// length, one that is too short for it, and none.
+/// Whether the library writes an answer and nothing else: into a text that is longer than the answer and one of its
+/// length; and its beginning into one that is too short for it, and into none.
 pub fn writes_alone(input: &[u8], rows: usize, orders: usize, answer: &[u8]) -> bool {
     const BEFORE: u8 = 0xA5;
     let longest = answer.len() + 9;
@@ -93,7 +93,7 @@ pub fn writes_alone(input: &[u8], rows: usize, orders: usize, answer: &[u8]) -> 
             let (status, length) = attempt(input, rows, orders, &mut text[..room]);
             let written = match status {
                 Status::Answered if room >= answer.len() => answer,
-                Status::TextTooShort if room < answer.len() => &[],
+                Status::TextTooShort if room < answer.len() => &answer[..room],
                 _ => return false,
             };
             // SAFETY: Each byte of the text had a value before the call, and the library writes bytes with a value alone.
@@ -107,7 +107,8 @@ pub fn writes_alone(input: &[u8], rows: usize, orders: usize, answer: &[u8]) -> 
         })
 }
 
-/// Calls the library. If it has answered, the first bytes of the text, as many as the length says, are the answer.
+/// Calls the library. If it has answered, the first bytes of the text, as many as the length says, are the answer; of a
+/// text that is too short all bytes are its beginning.
 fn attempt(
     input: &[u8],
     rows: usize,
