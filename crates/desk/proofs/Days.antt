@@ -81,11 +81,6 @@ pub of_both : {X E : Type 0} (r : Result X E) (T : Type 0) (P Q : X → Type 0) 
 of_both (Ok x) T P Q f t p = f x t p
 of_both (Err e) T P Q f t p = tt
 
--- what is said of an answer that is there
-pub of_ok : {X E : Type 0} (r : Result X E) (x : X) (P : X → Type 0) → r ≡ Ok x → IfOk r P → P x
-of_ok (Ok y) x P e p = let same : y ≡ x = cc in subst P same p
-of_ok (Err y) x P e p = cc
-
 same_plan : (r : Result Plan LineFault) (a b : Plan) → r ≡ Ok a → r ≡ Ok b → a ≡ b
 same_plan r a b p q = cc
 

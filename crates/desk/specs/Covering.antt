@@ -66,7 +66,7 @@ over_end zero (c ∷ line) (b ∷ text) l h =
     let more : suc (length text - 0) ≡ suc (length text) - 0 = omega arith in
     ap (λ t. c ∷ t) (over_end zero line text (omega arith) (omega (arith, h))) ∙ ap (λ n. take n (c ∷ line)) more
 
--- The most that a length can say.
+-- The most that a text's count of its answer's bytes can say.
 abbrev pub most_size : ℕ
 most_size = 2 ^ 128 - 1
 

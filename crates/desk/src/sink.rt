@@ -141,13 +141,12 @@ impl Sink for FixedText<'_> {
     ghost after = { λ x. covered x.text.now x.text.ghost_name x.length };
 
     fn write(&mut self, line: &[u8]) -> Result<(), Infallible> {
-        let end = self.length.saturating_add(line.len() as u128);
-        if end <= self.text.len() as u128 {
+        if self.has_room(line.len()) {
             self.write_whole(line);
         } else {
             self.write_beginning(line);
         }
-        self.length = end;
+        self.length = self.length.saturating_add(line.len() as u128);
         Ok(())
     }
 

@@ -1,5 +1,5 @@
 use Rattle.std.proofs.Common.{rules}
-use Rattle.replay.proofs.Lengths.{is_over, is_short, is_whole, same_text, told}
+use Rattle.replay.proofs.Lengths.{is_short, is_whole, is_written, same_text, told}
 use Rattle.replay.proofs.northbound_replay.Goals as goal
 
 pub returns-then-is_whole-clause-answered : goal.returns-then-is_whole-clause-answered
@@ -12,12 +12,12 @@ returns-then-is_whole-clause-answered c room =
     let begins = c.over-written.ensures.text in
     let empty = c.over-written.ensures.length in
     let same = same_text before text done.0 bytes n _ _ _ (search rules) begins empty done.1 in
-    let over = is_over before text done.0 bytes n _ _ _ (search rules) begins empty done.1 in (
+    let written = is_written before text done.0 bytes n _ _ _ (search rules) begins empty done.1 in (
       c.in-Ok.field-0,
       done.0,
       done.2,
       told before text done.0 bytes n _ _ _ (search rules) begins empty done.1 c.min.result c.min.ensures,
-      search (rules, same, over),
+      search (rules, same, written),
       is_whole before text done.0 bytes n _ _ _ (search rules) begins empty done.1 c.if-is_whole.ensures,
     )
 
@@ -31,11 +31,11 @@ returns-else-is_whole-clause-answered c room =
     let begins = c.over-written.ensures.text in
     let empty = c.over-written.ensures.length in
     let same = same_text before text done.0 bytes n _ _ _ (search rules) begins empty done.1 in
-    let over = is_over before text done.0 bytes n _ _ _ (search rules) begins empty done.1 in (
+    let written = is_written before text done.0 bytes n _ _ _ (search rules) begins empty done.1 in (
       c.in-Ok.field-0,
       done.0,
       done.2,
       told before text done.0 bytes n _ _ _ (search rules) begins empty done.1 c.min.result c.min.ensures,
-      search (rules, same, over),
+      search (rules, same, written),
       is_short before text done.0 bytes n _ _ _ (search rules) begins empty done.1 c.if-is_whole.ensures,
     )
