@@ -55,7 +55,7 @@ module _ {K : Type 0} (order : K → K → Ordering) (total : TotalOrder order) 
   from_off ks (Some p) f = let e : f.0 ≡ p = omega (arith, f.1) in subst (λ (x : ℕ). Found order ks key (Some x)) e f.2
   from_off ks None f = f
 
-  finds : (ks : List (Option K)) → Found order ks key (seek order 0 ks key)
+  pub finds : (ks : List (Option K)) → Found order ks key (seek order 0 ks key)
   finds ks = from_off ks (seek order 0 ks key) (off 0 ks)
 
   -- what the walk gives is what is found

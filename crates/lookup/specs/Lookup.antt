@@ -22,6 +22,11 @@ abbrev pub Found : {K : Type 0} → (K → K → Ordering) → List (Option K) �
 Found order ks sought (Some i) = (i < length ks) × (slice_index_or ks i None ≡ Some sought) × ((j : ℕ) → j < i → Passed order sought (slice_index_or ks j None))
 Found {K} order ks sought None = (i : ℕ) → i < length ks → slice_index_or ks i None ≡ Some sought → (j : ℕ) × (k : K) × (j < i) × (slice_index_or ks j None ≡ Some k) × (order k sought ≡ Greater)
 
+-- A place that is found is a row's, and that row has the key.
+abbrev pub Held : {K : Type 0} → List (Option K) → K → Option ℕ → Type 0
+Held ks sought (Some i) = (i < length ks) × (slice_index_or ks i None ≡ Some sought)
+Held ks sought None = Unit {0}
+
 -- The row is present and before the key.
 abbrev pub is_before : {K : Type 0} → (K → K → Ordering) → K → Option K → Bool
 is_before order sought None = false

@@ -1,6 +1,6 @@
 ghost use Rattle.std.specs.Prelude.{◌≡◌, ◌≤◌, length, true, [], ◌∷◌, ◌++◌, map};
 ghost use Rattle.lookup.specs.Orders.{pair_order};
-ghost use Rattle.lookup.specs.Lookup.{seek, Found, Parted, is_at, is_above, rise, Rising, is_of, some_of};
+ghost use Rattle.lookup.specs.Lookup.{seek, Found, Held, Parted, is_at, is_above, rise, Rising, is_of, some_of};
 
 use super::halving::{before, both_before};
 use super::key::{Key, Pair, Row};
@@ -44,6 +44,37 @@ fn find_rising<R: Row>(rows: &[R], key: &R::Key) -> Option<usize>
     ensures { rise R.Key.cmp R.named rows.now ≡ true → result ≡ seek R.Key.cmp 0 (map R.named rows.now) key.now }
 {
     found(rows, before(rows, key), key)
+}
+
+// Whether a row is present and has the key.
+fn has_key<R: Row>(row: &R, key: &R::Key) -> bool
+    ensures { result ≡ is_at R.Key.cmp key.now (R.named row.now) }
+{
+    row.key().is_some_and(|k| k.cmp(key).is_eq())
+}
+
+// The same, where the row that is found is asked whether it is present, since the rows may not rise.
+fn held_rising<R: Row>(rows: &[R], key: &R::Key) -> Option<usize>
+    ensures is { rise R.Key.cmp R.named rows.now ≡ true → result ≡ seek R.Key.cmp 0 (map R.named rows.now) key.now }
+    ensures held { Held (map R.named rows.now) key.now result }
+{
+    let place = before(rows, key);
+    let row = rows.get(place)?;
+    if has_key(row, key) { Some(place) } else { None }
+}
+
+// What `find` finds: by halving where the rows are said to rise, else by a walk. Whatever is said of them, a place that is found is
+// that of a row of the key.
+pub fn look<R: Row>(rows: &[R], key: &R::Key, rising: bool) -> Option<usize>
+    ensures is { (rising ≡ true → rise R.Key.cmp R.named rows.now ≡ true) → result ≡ seek R.Key.cmp 0 (map R.named rows.now) key.now }
+    ensures means { (rising ≡ true → rise R.Key.cmp R.named rows.now ≡ true) → Found R.Key.cmp (map R.named rows.now) key.now result }
+    ensures held { Held (map R.named rows.now) key.now result }
+{
+    if rising {
+        held_rising(rows, key)
+    } else {
+        find(rows, key)
+    }
 }
 
 // Whether a key is above the last one, if there is a last one.
@@ -94,6 +125,17 @@ fn holds_rising<R: Row<Key = Pair>>(rows: &[R], first: u64) -> bool
         return false;
     };
     is_of(row, first)
+}
+
+// Whether some present row has the first number in its key: by halving where the rows are said to rise, else by a walk.
+pub fn holds<R: Row<Key = Pair>>(rows: &[R], first: u64, rising: bool) -> bool
+    ensures { (rising ≡ true → rise pair_order R.named rows.now ≡ true) → result ≡ some_of first (map R.named rows.now) }
+{
+    if rising {
+        holds_rising(rows, first)
+    } else {
+        holds_walk(rows, first)
+    }
 }
 
 // Whether rows that are known to rise, or not to, rise with one more row behind them.
@@ -153,11 +195,7 @@ impl<R: Row<Key = Pair>> Lines<'_, R> {
     pub fn has(&self, first: u64) -> bool
         ensures { result ≡ some_of first (map R.named self.now.rows.now) }
     {
-        if self.rising {
-            holds_rising(self.rows, first)
-        } else {
-            holds_walk(self.rows, first)
-        }
+        holds(self.rows, first, self.rising)
     }
 }
 
