@@ -27,7 +27,7 @@ use Rattle.fields.specs.Numbers.{numbers_from, written_line, Within, WrittenAs}
 use Rattle.fields.proofs.Numbers.{by_then}
 use Rattle.fields.proofs.ReadBack.{opened, read_is_written, letter_found, written_wide, written_is_read}
 use Rattle.dayfile.specs.Groups.{starts}
-use Rattle.dayfile.specs.Rows.{line_of, misplaced, named_case, security_of, held_of, designation_of}
+use Rattle.dayfile.specs.Rows.{line_of, misplaced, named_case, security_of, held_of, holding_of, account_holding_of, designation_of}
 use Rattle.dayfile.specs.Description.{security_numbers, held_numbers, holding_numbers, account_holding_numbers, designation_numbers}
 use Rattle.dayfile.specs.Kinds.{security_kind, holding_kind, account_holding_kind, designation_kind}
 use Rattle.dayfile.proofs.Written.{Lined}
@@ -72,6 +72,9 @@ module _ {X : Type 0} (l : Letter) (make : List ℕ → Result X FieldFault) (da
       let r = written_is_read l ns more w in
       let o : opening day_letters (written_line l ns ++ more) ≡ Ok l = ap (λ p. opening (letters_of p) (written_line l ns ++ more)) (sym day) ∙ r.opens in
       rw (o, eq-eqb (letter_rules l).byte (letter_rules l).byte refl, r.numbers) e
+
+pub starts_written : (l : Letter) (ns more : List ℕ) → starts l (written_line l ns ++ more) ≡ true
+starts_written l ns more = grind (arith, nat_tests)
 
 pub two : (ns : List ℕ) → length ns ≡ 2 → ns ≡ get_or ns 0 0 ∷ (get_or ns 1 0 ∷ [])
 two [] e = absurd (omega arith)
@@ -205,7 +208,7 @@ module _ {X : Type 0} (l : Letter) (make : List ℕ → Result X FieldFault) (nu
   row_back x more g = line_written l make day (numbers x) more x (said.within x g) (said.back x g)
 
   row_opens : (x : X) (more : List ℕ) → Good x → starts l (written_line l (numbers x) ++ more) ≡ true
-  row_opens x more g = grind (arith, nat_tests)
+  row_opens x more g = starts_written l (numbers x) more
 
   row_wide : (x : X) → Good x → length (written_line l (numbers x)) ≡ width_of l
   row_wide x g = written_wide l (numbers x) (said.within x g)
@@ -217,10 +220,10 @@ pub security_lined : Lined security_kind (λ s. written_line letter.Security (se
 security_lined = row_lined letter.Security security_of security_numbers GoodSecurity security_said refl security_kind.first security_kind.step
 
 pub holding_lined : Lined holding_kind (λ h. written_line letter.Holding (holding_numbers h)) GoodHolding
-holding_lined = row_lined letter.Holding (held_of participant) holding_numbers GoodHolding (held_said letter.Holding quantity.Participant participant (λ p. p.0) refl (λ n. refl) (λ p. refl)) refl holding_kind.first holding_kind.step
+holding_lined = row_lined letter.Holding holding_of holding_numbers GoodHolding (held_said letter.Holding quantity.Participant participant (λ p. p.0) refl (λ n. refl) (λ p. refl)) refl holding_kind.first holding_kind.step
 
 pub account_holding_lined : Lined account_holding_kind (λ h. written_line letter.AccountHolding (account_holding_numbers h)) GoodAccountHolding
-account_holding_lined = row_lined letter.AccountHolding (held_of account) account_holding_numbers GoodAccountHolding (held_said letter.AccountHolding quantity.Account account (λ a. a.0) refl (λ n. refl) (λ a. refl)) refl account_holding_kind.first account_holding_kind.step
+account_holding_lined = row_lined letter.AccountHolding account_holding_of account_holding_numbers GoodAccountHolding (held_said letter.AccountHolding quantity.Account account (λ a. a.0) refl (λ n. refl) (λ a. refl)) refl account_holding_kind.first account_holding_kind.step
 
 pub designation_lined : Lined designation_kind (λ d. written_line letter.Designation (designation_numbers d)) GoodDesignation
 designation_lined = row_lined letter.Designation designation_of designation_numbers GoodDesignation designation_said refl designation_kind.first designation_kind.step

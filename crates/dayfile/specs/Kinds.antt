@@ -1,5 +1,5 @@
 -- The four groups of the day part.
-use Rattle.std.specs.Prelude.{ℕ, ◌+◌, cond, Some, None, Ok, Err, Option, Result, ◌==◌, nat_lt}
+use Rattle.std.specs.Prelude.{ℕ, ◌+◌, cond, List, Some, None, Ok, Err, Option, Result, ◌==◌, nat_lt}
 use Rattle.std.specs.declared.cmp.Ordering.{Ordering}
 use Rattle.rules.specs.declared.letter.Letter.{Letter}
 use Rattle.rules.specs.declared.letter.Letter.TheVariants as letter
@@ -9,7 +9,6 @@ use Rattle.tables.specs.declared.rows.Security.{Security}
 use Rattle.tables.specs.declared.rows.Holding.{Holding}
 use Rattle.tables.specs.declared.owner.Participant.{Participant}
 use Rattle.tables.specs.declared.owner.Account.{Account}
-use Rattle.tables.specs.Owners.{participant, account}
 use Rattle.tables.specs.declared.rows.Designation.{Designation}
 use Rattle.lookup.specs.Lookup.{is_above}
 use Rattle.std.specs.Ordering.{nat_cmp}
@@ -19,7 +18,7 @@ use Rattle.fields.specs.declared.fault.FieldFault.{FieldFault}
 use Rattle.fields.specs.Faults.{and_then}
 use Rattle.dayfile.specs.declared.run.Run.{Run}
 use Rattle.dayfile.specs.Groups.{Kind}
-use Rattle.dayfile.specs.Rows.{line_of, security_of, held_of, designation_of}
+use Rattle.dayfile.specs.Rows.{line_of, security_of, holding_of, account_holding_of, designation_of}
 
 -- An account may name so many participants.
 abbrev pub most_named : ℕ
@@ -46,16 +45,16 @@ abbrev pub security_kind : Kind Security (Option ℕ)
 security_kind = record { letter = letter.Security; reads = line_of letter.Security security_of; first = None; step = λ last s. above nat_cmp last s.code }
 
 -- Lines of the holdings of owners rise by owner and code.
-abbrev pub held_kind : {O : Type 0} → Letter → (ℕ → O) → (O → ℕ) → Kind (Holding O) (Option Pair)
-held_kind l owner number = record { letter = l; reads = line_of l (held_of owner); first = None; step = λ last h. above pair_order last (pair (number h.owner) h.code) }
+abbrev pub held_kind : {O : Type 0} → Letter → (List ℕ → Result (Holding O) FieldFault) → (O → ℕ) → Kind (Holding O) (Option Pair)
+held_kind l gives number = record { letter = l; reads = line_of l gives; first = None; step = λ last h. above pair_order last (pair (number h.owner) h.code) }
 
 -- P lines rise by participant and code.
 abbrev pub holding_kind : Kind (Holding Participant) (Option Pair)
-holding_kind = held_kind letter.Holding participant (λ p. p.0)
+holding_kind = held_kind letter.Holding holding_of (λ p. p.0)
 
 -- A lines rise by account and code.
 abbrev pub account_holding_kind : Kind (Holding Account) (Option Pair)
-account_holding_kind = held_kind letter.AccountHolding account (λ a. a.0)
+account_holding_kind = held_kind letter.AccountHolding account_holding_of (λ a. a.0)
 
 -- G lines rise by account and participant, and name few participants for an account.
 abbrev pub designation_kind : Kind Designation (Option Run)

@@ -91,7 +91,7 @@ impl Entry for Security {
 impl<O: HeldLine> Entry for Holding<O> {
     type State = Option<Pair>;
 
-    ghost kind = { held_kind O.letter O.of O.number };
+    ghost kind = { held_kind O.letter O.gives O.number };
 
     ghost long = { O.long };
 

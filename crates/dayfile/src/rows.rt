@@ -1,4 +1,4 @@
-ghost use Rattle.std.specs.Prelude.{◌≡◌, ℕ, ◌<◌, ◌≤◌, ◌^◌, List, [], ◌∷◌, length, Ok};
+ghost use Rattle.std.specs.Prelude.{◌≡◌, ℕ, ◌<◌, ◌≤◌, ◌^◌, List, [], ◌∷◌, length, Ok, Result as Answer};
 ghost use Rattle.rules.specs.declared.letter.Letter.{Letter as a_letter};
 ghost use Rattle.tables.specs.declared.rows.Holding.{Holding as a_holding};
 ghost use Rattle.fields.specs.Layout.{width_of};
@@ -8,7 +8,8 @@ ghost use Rattle.rules.specs.declared.range.Quantity.TheVariants as quantity;
 ghost use Rattle.rules.specs.Ranges.{range_of};
 ghost use Rattle.fields.specs.Faults.{and_then};
 ghost use Rattle.fields.specs.Reading.{ranging};
-ghost use Rattle.dayfile.specs.Rows.{security_of, held_of, designation_of, out_of_place, misplaced, line_of};
+ghost use Rattle.fields.specs.declared.fault.FieldFault.{FieldFault as a_fault};
+ghost use Rattle.dayfile.specs.Rows.{security_of, held_of, holding_of, account_holding_of, designation_of, out_of_place, misplaced, line_of};
 
 use fields::fault::FieldFault;
 use fields::field::Field;
@@ -161,17 +162,21 @@ fn held<O: Owner>(owner: Field, code: Field, shares: Field) -> Result<Holding<O>
 pub(crate) trait HeldLine: Owner {
     ghost letter: { a_letter };
 
+    ghost gives: { List ℕ → Answer (a_holding Self) a_fault };
+
     fn letter() -> Letter
         ensures { result ≡ letter };
 
     fn holding(line: &[u8]) -> Result<Holding<Self>, FieldFault>
-        ensures { result ≡ line_of letter (held_of Self.of) line.now };
+        ensures { result ≡ line_of letter gives line.now };
 
-    ghost long: { (line : List ℕ) (x : a_holding Self) → line_of letter (held_of Self.of) line ≡ Ok x → width_of letter ≤ length line };
+    ghost long: { (line : List ℕ) (x : a_holding Self) → line_of letter gives line ≡ Ok x → width_of letter ≤ length line };
 }
 
 impl HeldLine for Participant {
     ghost letter = { letter.Holding };
+
+    ghost gives = { holding_of };
 
     ghost long = { Prim.search rules };
 
@@ -193,6 +198,8 @@ impl HeldLine for Participant {
 
 impl HeldLine for Account {
     ghost letter = { letter.AccountHolding };
+
+    ghost gives = { account_holding_of };
 
     ghost long = { Prim.search rules };
 
