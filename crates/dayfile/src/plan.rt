@@ -18,7 +18,7 @@ pub struct Counts {
 }
 
 // A day part as it is judged: its opening, how many lines its groups have, and what is left for the events.
-#[derive(Drop)]
+#[derive(Clone, Copy, PartialEq, Eq, Debug)]
 pub struct Plan<'a> {
     pub opening: Opening,
     pub counts: Counts,

@@ -5,7 +5,7 @@ use super::line::line_width;
 use rules::letter::Letter;
 
 // What is left of an input, and the number of its first line, counted from 1.
-#[derive(Drop)]
+#[derive(Clone, Copy, PartialEq, Eq, Debug)]
 pub struct Rest<'a> {
     pub bytes: &'a [u8],
     pub line: u64,
