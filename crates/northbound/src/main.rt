@@ -5,22 +5,40 @@ ghost use Rattle.std.specs.Io.KnownBytes.{Appends};
 ghost use Rattle.desk.specs.Output.{Output, most_input, program_orders, program_room};
 
 use desk::output::{MOST_INPUT, output};
-use std::alloc::Global;
-use std::io::{Read, Write};
+use std::alloc::{AllocError, Global};
+use std::io;
+use std::io::{ErrorKind, Read, Write};
 
 // The most bytes that are read: one more than an input may have shows that it is too long.
 const MOST_READ: usize = MOST_INPUT + 1;
 
-// Reads a reader to its end, or until it has given one byte more than an input may have.
-fn read_input<R: Read + Drop>(heap: Global, reader: R) -> anyhow::Result<Vec<u8>>
+// Reads a reader to its end, or until it has given one byte more than an input may have. A read has room for 8,192 bytes: a pipe
+// that keeps its messages apart, of 4,096 bytes at the most, drops what there is no room for.
+fn read_all<R: Read + Drop>(heap: Global, reader: R) -> io::Result<Vec<u8>>
     ensures most { IfOk result (λ input. vec_len input ≤ most_input + 1) }
     ensures bytes { IfOk result (λ input. IfSome (R.Read.remaining reader) (λ xs. input.items ≡ take (most_input + 1) xs)) }
 {
     let mut input = Vec::new(heap);
-    reader.take(MOST_READ as u64).read_to_end(&mut input)?;
-    // No effect at run time. `read_to_end` does not say that it keeps to the limit of `take`.
+    io::copy(&mut reader.take(MOST_READ as u64), &mut input)?;
+    // No effect at run time. `copy` does not say that it keeps to the limit of `take`.
     input.truncate(MOST_READ);
     Ok(input)
+}
+
+// What reading failed by: where there was no memory, the error of any other call that asks for some.
+fn read_error(error: io::Error) -> anyhow::Error {
+    if error.kind() == ErrorKind::OutOfMemory && error.raw_os_error().is_none() {
+        return AllocError.into();
+    }
+    error.into()
+}
+
+// What `read_all` reads, or the program's error.
+fn read_input<R: Read + Drop>(heap: Global, reader: R) -> anyhow::Result<Vec<u8>>
+    ensures most { IfOk result (λ input. vec_len input ≤ most_input + 1) }
+    ensures bytes { IfOk result (λ input. IfSome (R.Read.remaining reader) (λ xs. input.items ≡ take (most_input + 1) xs)) }
+{
+    read_all(heap, reader).map_err(read_error)
 }
 
 // Writes a whole text behind what a writer has.

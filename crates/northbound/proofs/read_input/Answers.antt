@@ -1,6 +1,0 @@
-use Rattle.northbound.proofs.Capped.{capped}
-use Rattle.northbound.proofs.read_input.Goals as goal
-
-pub returns-clause-bytes : goal.returns-clause-bytes
-returns-clause-bytes g c = capped (g.R.Read.remaining c.args.reader) 32769 c.new-input.result.items c.read_to_end.new.buf.items c.truncate.new.self.items c.new-input.ensures.items
-    (rw (← c.take.ensures.inner, ← c.take.ensures.limit) c.in_ok-read_to_end.ensures.bytes) c.truncate.ensures.items
