@@ -1,2 +1,2 @@
-mod Pools
+pub mod Pools
 pub mod Fresh
